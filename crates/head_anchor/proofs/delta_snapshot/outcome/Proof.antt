@@ -1,0 +1,12 @@
+use Rattle.head_anchor.specs.Lists.{outcome}
+use Rattle.head_anchor.proofs.delta_snapshot.outcome.Statement.{statement}
+use Rattle.head_anchor.proofs.delta_snapshot.outcome.Tie as tie
+
+pub outcome-spec : {M : Type 1} → statement M
+unfolding outcome
+outcome-spec = tie.close (tie.spec
+    (λ c κs. tt)
+    (λ c κs. tt)
+    (λ c κs. tt)
+    (λ c. rw (← c .before .before .before .is-linked .ensures, ← c .before .before .is-read .ensures, ← c .before .both .ensures, c .if1 .taken))
+    (λ c. rw (← c .before .before .before .is-linked .ensures, ← c .before .before .is-read .ensures, ← c .before .both .ensures, c .if1 .left)))

@@ -1,0 +1,11 @@
+use Rattle.head_anchor.specs.Lists.{hasHash}
+use Rattle.head_anchor.proofs.read_hub.has_hash.Statement.{statement}
+use Rattle.head_anchor.proofs.read_hub.has_hash.Tie as tie
+
+pub has-hash-spec : {M : Type 1} → statement M
+unfolding hasHash
+has-hash-spec = tie.close (tie.spec
+    (λ c. c .match .keys1)
+    (λ c. c .match .keys2)
+    (λ c. rw (c .enum-told .given .1))
+    (λ c. rw (c .enum-told2 .given .1)))

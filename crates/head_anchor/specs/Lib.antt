@@ -1,0 +1,6 @@
+-- Document 01, "Anchor and link" and "Prepared list and outcome". All of it is the paper's.
+pub mod Anchors
+pub mod Links
+pub mod Lists
+pub mod Words
+pub mod Values

@@ -1,0 +1,127 @@
+// From read_hub.rs: the link test, a prepared list, and what an apply of it does.
+ghost use mathlib.Core.Path.{_≡_};
+ghost use Rattle.head_anchor.specs.Links.{follows, linkByHash, classifyLink};
+ghost use Rattle.head_anchor.specs.Lists.{hasHash, isNoHash, isLinked, isRead, asPrepared};
+use crate::bal_prefetch::BalSkip;
+use crate::storage_memo::AnchorSlot;
+use crate::storage_memo::BlockHash;
+use crate::storage_memo::ReadAnchor;
+use hash::Hash;
+use hash::same_hash;
+
+// The Rust's `Option<CarryRefusal>`: linked, or what is wrong with the link.
+pub enum Link {
+    Linked,
+    NoParent,
+    NotConsecutive,
+    HashUnknown,
+    HashMismatch,
+}
+
+// A list that was prepared for an anchor. Its values stay with the host.
+pub struct PreparedBal {
+    pub anchor: ReadAnchor,
+    pub skip: BalSkip,
+}
+
+// The number that `Carried` holds is the host's.
+pub enum CarryOutcome {
+    Carried(u64),
+    Cold(Link, BalSkip),
+}
+
+// The Rust's `checked_add(1)`: the largest number has no successor.
+pub(crate) fn follows(parent: u64, child: u64) -> bool
+    ensures { λ r. ⌜ r ≡ follows parent child ⌝ }
+{
+    if parent == 0xffff_ffff_ffff_ffff {
+        false
+    } else {
+        parent + 1 == child
+    }
+}
+
+pub(crate) fn link_by_hash(parent: BlockHash, parent_hash: Hash) -> Link
+    ensures { λ r. ⌜ r ≡ linkByHash parent «parent_hash» ⌝ }
+{
+    match parent {
+        BlockHash::Unknown => Link::HashUnknown,
+        BlockHash::Known(hash) => {
+            if same_hash(hash, parent_hash) {
+                Link::Linked
+            } else {
+                Link::HashMismatch
+            }
+        }
+    }
+}
+
+pub fn classify_link(parent: AnchorSlot, child: ReadAnchor, parent_hash: Hash) -> Link
+    ensures { λ r. ⌜ r ≡ classifyLink parent child «parent_hash» ⌝ }
+{
+    match parent {
+        AnchorSlot::Nothing => Link::NoParent,
+        AnchorSlot::At(p) => {
+            let hash = p.hash;
+            if follows(p.number, child.number) {
+                link_by_hash(hash, parent_hash)
+            } else {
+                Link::NotConsecutive
+            }
+        }
+    }
+}
+
+pub(crate) fn has_hash(hash: BlockHash) -> bool
+    ensures { λ r. ⌜ r ≡ hasHash hash ⌝ }
+{
+    match hash {
+        BlockHash::Unknown => false,
+        BlockHash::Known(_) => true,
+    }
+}
+
+pub(crate) fn is_no_hash(skip: BalSkip) -> bool
+    ensures { λ r. ⌜ r ≡ isNoHash skip ⌝ }
+{
+    match skip {
+        BalSkip::Nothing => false,
+        BalSkip::NoHash => true,
+        BalSkip::Rpc(_) => false,
+        BalSkip::Decode(_) => false,
+    }
+}
+
+pub(crate) fn is_linked(link: Link) -> bool
+    ensures { λ r. ⌜ r ≡ isLinked link ⌝ }
+{
+    match link {
+        Link::Linked => true,
+        Link::NoParent => false,
+        Link::NotConsecutive => false,
+        Link::HashUnknown => false,
+        Link::HashMismatch => false,
+    }
+}
+
+pub(crate) fn is_read(skip: BalSkip) -> bool
+    ensures { λ r. ⌜ r ≡ isRead skip ⌝ }
+{
+    match skip {
+        BalSkip::Nothing => true,
+        BalSkip::NoHash => false,
+        BalSkip::Rpc(_) => false,
+        BalSkip::Decode(_) => false,
+    }
+}
+
+// Whether `PreparedBal::prepare` could have made the list.
+pub fn as_prepared(list: PreparedBal) -> bool
+    ensures { λ r. ⌜ r ≡ asPrepared list ⌝ }
+{
+    let anchor = list.anchor;
+    let hash = anchor.hash;
+    let skip = list.skip;
+    let has = has_hash(hash);
+    if is_no_hash(skip) { !has } else { has }
+}

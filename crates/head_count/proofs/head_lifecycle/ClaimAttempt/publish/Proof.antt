@@ -1,0 +1,9 @@
+use Rattle.head_count.specs.Attempts.{publish}
+use Rattle.head_count.proofs.head_lifecycle.ClaimAttempt.publish.Statement.{statement}
+use Rattle.head_count.proofs.head_lifecycle.ClaimAttempt.publish.Tie as tie
+
+pub publish-spec : {M : Type 1} → statement M
+unfolding publish
+publish-spec = tie.close (tie.spec
+    (λ c κs. tt)
+    (λ c. rw (← c .before .first-end .ensures)))

@@ -1,0 +1,9 @@
+use mathlib.Core.Path.{refl}
+use Rattle.head_count.specs.Attempts.{settled}
+use Rattle.head_count.proofs.head_lifecycle.ClaimAttempt.settled.Statement.{statement}
+use Rattle.head_count.proofs.head_lifecycle.ClaimAttempt.settled.Tie as tie
+
+pub settled-spec : {M : Type 1} → statement M
+unfolding settled
+settled-spec = tie.close (tie.spec
+    (λ c. refl))

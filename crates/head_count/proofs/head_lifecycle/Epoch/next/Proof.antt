@@ -1,0 +1,9 @@
+use Rattle.head_count.specs.Counters.{nextEpoch}
+use Rattle.head_count.proofs.head_lifecycle.Epoch.next.Statement.{statement}
+use Rattle.head_count.proofs.head_lifecycle.Epoch.next.Tie as tie
+
+pub next-spec : {M : Type 1} → statement M
+unfolding nextEpoch
+next-spec = tie.close (tie.spec
+    (λ c κs. tt)
+    (λ c. rw (← c .raised .ensures)))

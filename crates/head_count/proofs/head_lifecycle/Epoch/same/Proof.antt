@@ -1,0 +1,9 @@
+use mathlib.Core.Path.{refl}
+use Rattle.head_count.specs.Counters.{sameEpoch}
+use Rattle.head_count.proofs.head_lifecycle.Epoch.same.Statement.{statement}
+use Rattle.head_count.proofs.head_lifecycle.Epoch.same.Tie as tie
+
+pub same-spec : {M : Type 1} → statement M
+unfolding sameEpoch
+same-spec = tie.close (tie.spec
+    (λ c. refl))

@@ -1,0 +1,9 @@
+use mathlib.Core.Path.{refl}
+use Rattle.head_count.specs.Counters.{noneCounted}
+use Rattle.head_count.proofs.head_lifecycle.HeadStats.new.Statement.{statement}
+use Rattle.head_count.proofs.head_lifecycle.HeadStats.new.Tie as tie
+
+pub new-spec : {M : Type 1} → statement M
+unfolding noneCounted
+new-spec = tie.close (tie.spec
+    (λ c. refl))

@@ -1,0 +1,9 @@
+use mathlib.Core.Path.{refl}
+use Rattle.head_count.specs.Counters.{sameSeq}
+use Rattle.head_count.proofs.head_lifecycle.Seq.same.Statement.{statement}
+use Rattle.head_count.proofs.head_lifecycle.Seq.same.Tie as tie
+
+pub same-spec : {M : Type 1} → statement M
+unfolding sameSeq
+same-spec = tie.close (tie.spec
+    (λ c. refl))

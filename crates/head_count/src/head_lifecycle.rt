@@ -1,0 +1,225 @@
+// From head_lifecycle.rs: `HeadStats`, `HeadCompletion`, `ClaimAttempt`. The waiters stand for the receivers of its `watch` channels.
+ghost use mathlib.Core.Path.{_≡_};
+ghost use Rattle.head_count.specs.Counters.{up, nextSeq, sameSeq, nextEpoch, sameEpoch, raise, noneCounted};
+ghost use Rattle.head_count.specs.Attempts.{firstEnd, minted, settled, publish};
+ghost use Rattle.head_count.specs.Waiters.{woken, wake};
+use head_anchor::storage_memo::ReadAnchor;
+
+// A delivery number: the Rust's `seq`. A type of its own, so that it is never taken where a claim epoch is asked for.
+pub struct Seq(pub u64);
+
+// A claim epoch: the Rust's `epoch`.
+pub struct Epoch(pub u64);
+
+pub enum Counter {
+    Delivered,
+    Repeated,
+    Superseded,
+    Settled,
+    AlreadyCurrent,
+    Discarded,
+    ReadyViews,
+    ColdViews,
+}
+
+pub struct HeadStats {
+    pub delivered: u64,
+    pub repeated: u64,
+    pub superseded: u64,
+    pub settled: u64,
+    pub already_current: u64,
+    pub discarded: u64,
+    pub ready_views: u64,
+    pub cold_views: u64,
+}
+
+// The Rust's `Option<HeadCompletion>`: an attempt that has not ended is open.
+pub enum HeadCompletion {
+    Open,
+    Settled,
+    Superseded,
+    Abandoned,
+}
+
+pub struct ClaimAttempt {
+    pub epoch: Epoch,
+    pub end: HeadCompletion,
+}
+
+// A parked waiter needs no anchor: it waits on the current preparation.
+pub enum Waiter {
+    Free,
+    Parked,
+    Abandoned(ReadAnchor),
+    Ended(ReadAnchor),
+}
+
+pub struct WaiterSlot {
+    pub waiter: Waiter,
+}
+
+// The Rust's `saturating_add(1)`.
+pub(crate) fn raised(n: u64) -> u64
+    ensures { λ r. ⌜ r ≡ up n ⌝ }
+{
+    if n < 0xffff_ffff_ffff_ffff { n + 1 } else { n }
+}
+
+impl Seq {
+    pub fn next(self) -> Seq
+        ensures { λ r. ⌜ r ≡ nextSeq self ⌝ }
+    {
+        Seq(raised(self.0))
+    }
+
+    pub fn same(self, other: Seq) -> bool
+        ensures { λ r. ⌜ r ≡ sameSeq self other ⌝ }
+    {
+        self.0 == other.0
+    }
+}
+
+impl Epoch {
+    pub fn next(self) -> Epoch
+        ensures { λ r. ⌜ r ≡ nextEpoch self ⌝ }
+    {
+        Epoch(raised(self.0))
+    }
+
+    pub fn same(self, other: Epoch) -> bool
+        ensures { λ r. ⌜ r ≡ sameEpoch self other ⌝ }
+    {
+        self.0 == other.0
+    }
+}
+
+impl HeadStats {
+    pub fn new() -> HeadStats
+        ensures { λ r. ⌜ r ≡ noneCounted ⌝ }
+    {
+        HeadStats {
+            delivered: 0,
+            repeated: 0,
+            superseded: 0,
+            settled: 0,
+            already_current: 0,
+            discarded: 0,
+            ready_views: 0,
+            cold_views: 0,
+        }
+    }
+
+    pub fn raise(self, counter: Counter) -> HeadStats
+        ensures { λ r. ⌜ r ≡ raise counter self ⌝ }
+    {
+        match counter {
+            Counter::Delivered => HeadStats {
+                delivered: raised(self.delivered),
+                ..self
+            },
+            Counter::Repeated => HeadStats {
+                repeated: raised(self.repeated),
+                ..self
+            },
+            Counter::Superseded => HeadStats {
+                superseded: raised(self.superseded),
+                ..self
+            },
+            Counter::Settled => HeadStats {
+                settled: raised(self.settled),
+                ..self
+            },
+            Counter::AlreadyCurrent => HeadStats {
+                already_current: raised(self.already_current),
+                ..self
+            },
+            Counter::Discarded => HeadStats {
+                discarded: raised(self.discarded),
+                ..self
+            },
+            Counter::ReadyViews => HeadStats {
+                ready_views: raised(self.ready_views),
+                ..self
+            },
+            Counter::ColdViews => HeadStats {
+                cold_views: raised(self.cold_views),
+                ..self
+            },
+        }
+    }
+}
+
+// The first end stays.
+pub(crate) fn first_end(end: HeadCompletion, later: HeadCompletion) -> HeadCompletion
+    ensures { λ r. ⌜ r ≡ firstEnd end later ⌝ }
+{
+    match end {
+        HeadCompletion::Open => later,
+        HeadCompletion::Settled => HeadCompletion::Settled,
+        HeadCompletion::Superseded => HeadCompletion::Superseded,
+        HeadCompletion::Abandoned => HeadCompletion::Abandoned,
+    }
+}
+
+impl ClaimAttempt {
+    // An attempt that nothing has ended yet. A delivery's own has epoch 0.
+    pub fn minted(epoch: Epoch) -> ClaimAttempt
+        ensures { λ r. ⌜ r ≡ minted epoch ⌝ }
+    {
+        ClaimAttempt {
+            epoch,
+            end: HeadCompletion::Open,
+        }
+    }
+
+    pub fn settled(epoch: Epoch) -> ClaimAttempt
+        ensures { λ r. ⌜ r ≡ settled epoch ⌝ }
+    {
+        ClaimAttempt {
+            epoch,
+            end: HeadCompletion::Settled,
+        }
+    }
+
+    pub fn publish(self, end: HeadCompletion) -> ClaimAttempt
+        ensures { λ r. ⌜ r ≡ publish self end ⌝ }
+    {
+        let old = self.end;
+        ClaimAttempt {
+            end: first_end(old, end),
+            ..self
+        }
+    }
+}
+
+pub(crate) fn woken(end: HeadCompletion, anchor: ReadAnchor, waiter: Waiter) -> Waiter
+    ensures { λ r. ⌜ r ≡ woken end anchor waiter ⌝ }
+{
+    match waiter {
+        Waiter::Free => Waiter::Free,
+        Waiter::Parked => match end {
+            HeadCompletion::Open => Waiter::Parked,
+            HeadCompletion::Settled => Waiter::Ended(anchor),
+            HeadCompletion::Superseded => Waiter::Ended(anchor),
+            HeadCompletion::Abandoned => Waiter::Abandoned(anchor),
+        },
+        Waiter::Abandoned(at) => Waiter::Abandoned(at),
+        Waiter::Ended(at) => Waiter::Ended(at),
+    }
+}
+
+// The preparation at that anchor has ended, and so has the wait of everyone parked on it.
+pub fn wake(end: HeadCompletion, anchor: ReadAnchor, waiters: [WaiterSlot; 16]) -> [WaiterSlot; 16]
+    ensures { λ r. ⌜ r ≡ wake end anchor waiters ⌝ }
+{
+    let mut out = waiters;
+    let mut i: usize = 0;
+    while i < 16 {
+        let slot = out[i];
+        let waiter = slot.waiter;
+        let next = woken(end, anchor, waiter);
+        out[i] = WaiterSlot { waiter: next };
+        i += 1;
+    }
+    out
+}

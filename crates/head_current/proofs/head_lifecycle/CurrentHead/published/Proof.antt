@@ -1,0 +1,15 @@
+use Rattle.head_current.specs.Heads.{published}
+use Rattle.head_current.proofs.head_lifecycle.CurrentHead.published.Statement.{statement}
+use Rattle.head_current.proofs.head_lifecycle.CurrentHead.published.Tie as tie
+
+pub published-spec : {M : Type 1} → statement M
+unfolding published
+published-spec = tie.close (tie.spec
+    (λ c. c .match .keys1)
+    (λ c. c .match .keys2)
+    (λ c. c .match .keys3)
+    (λ c. c .match .keys4)
+    (λ c. rw (c .enum-told .given .1))
+    (λ c. rw (c .before .before .self .given .1))
+    (λ c. rw (c .before .before .self2 .given .1))
+    (λ c. rw (c .before .before .self3 .given .1)))

@@ -1,0 +1,340 @@
+// From head_lifecycle.rs: `HeadTicket`, `PrepareClaim`, `HeadDelivery`, `UnsettledHead`, `SettledHead`, `CurrentHead`.
+ghost use mathlib.Core.Path.{_≡_};
+ghost use Rattle.head_current.specs.Heads.{sameDelivery, redelivery, repeats, ticketOf, delivery, anchorOf, published, unsettled, preparingAt, report};
+ghost use Rattle.head_current.specs.Moves.{claimedHead, owns, ownedBy, releasedHead, abandonment, settlingEpoch, settledHead, wakeCurrent};
+use hash::Hash;
+use hash::both;
+use hash::same_hash;
+use head_anchor::read_hub::CarryOutcome;
+use head_anchor::storage_memo::AnchorSlot;
+use head_anchor::storage_memo::ReadAnchor;
+use head_anchor::storage_memo::same_anchor;
+use head_count::head_lifecycle::ClaimAttempt;
+use head_count::head_lifecycle::Epoch;
+use head_count::head_lifecycle::HeadCompletion;
+use head_count::head_lifecycle::Seq;
+use head_count::head_lifecycle::WaiterSlot;
+use head_count::head_lifecycle::wake;
+
+pub struct HeadTicket {
+    pub anchor: ReadAnchor,
+    pub seq: Seq,
+}
+
+// What a release names: the Rust's `PrepareClaim` without its driver.
+pub struct PrepareClaim {
+    pub seq: Seq,
+    pub epoch: Epoch,
+}
+
+pub struct HeadDelivery {
+    pub anchor: ReadAnchor,
+    pub parent_hash: Hash,
+    pub seq: Seq,
+}
+
+// The Rust's `Option<&HeadDelivery>`.
+pub enum DeliverySlot {
+    Nothing,
+    Held(HeadDelivery),
+}
+
+// Whether a delivery repeats the current head's, and then under which number.
+pub enum Redelivery {
+    New,
+    Of(Seq),
+}
+
+// `provisional` is the handle of the cold generation that the host made.
+pub struct UnsettledHead {
+    pub delivery: HeadDelivery,
+    pub provisional: u64,
+    pub attempt: ClaimAttempt,
+}
+
+// The Rust's `Option<Arc<DeltaReport>>`: the outcome, and the host's number for the rest.
+pub enum LastReport {
+    Nothing,
+    Made(CarryOutcome, u64),
+}
+
+pub struct SettledHead {
+    pub delivery: HeadDelivery,
+    pub report: LastReport,
+    pub attempt: ClaimAttempt,
+}
+
+// The Rust's `Option<CurrentHead>`.
+pub enum CurrentHead {
+    Absent,
+    Unclaimed(UnsettledHead),
+    Preparing(UnsettledHead),
+    Settled(SettledHead),
+}
+
+impl HeadDelivery {
+    pub(crate) fn same(self, anchor: ReadAnchor, parent_hash: Hash) -> bool
+        ensures { λ r. ⌜ r ≡ sameDelivery self anchor «parent_hash» ⌝ }
+    {
+        both(same_anchor(self.anchor, anchor), same_hash(self.parent_hash, parent_hash))
+    }
+
+    pub(crate) fn repeated_by(self, anchor: ReadAnchor, parent_hash: Hash) -> Redelivery
+        ensures { λ r. ⌜ r ≡ redelivery self anchor «parent_hash» ⌝ }
+    {
+        if self.same(anchor, parent_hash) {
+            let seq = self.seq;
+            Redelivery::Of(seq)
+        } else {
+            Redelivery::New
+        }
+    }
+
+    // Whether the ticket is this delivery's.
+    pub fn has_ticket(self, ticket: HeadTicket) -> bool
+        ensures { λ r. ⌜ r ≡ ticketOf self ticket ⌝ }
+    {
+        let seq = self.seq;
+        both(same_anchor(self.anchor, ticket.anchor), seq.same(ticket.seq))
+    }
+}
+
+impl UnsettledHead {
+    pub(crate) fn owned_by(self, claim: PrepareClaim) -> bool
+        ensures { λ r. ⌜ r ≡ owns self claim ⌝ }
+    {
+        let delivery = self.delivery;
+        let attempt = self.attempt;
+        let seq = delivery.seq;
+        let epoch = attempt.epoch;
+        both(seq.same(claim.seq), epoch.same(claim.epoch))
+    }
+
+    // Whether the attempt has ended abandoned, so that a settle needs a new one.
+    pub(crate) fn abandoned(self) -> bool
+        ensures { λ r. ⌜ r ≡ abandonment self ⌝ }
+    {
+        let attempt = self.attempt;
+        let end = attempt.end;
+        match end {
+            HeadCompletion::Open => false,
+            HeadCompletion::Settled => false,
+            HeadCompletion::Superseded => false,
+            HeadCompletion::Abandoned => true,
+        }
+    }
+}
+
+impl CurrentHead {
+    pub fn delivery(self) -> DeliverySlot
+        ensures { λ r. ⌜ r ≡ delivery self ⌝ }
+    {
+        match self {
+            CurrentHead::Absent => DeliverySlot::Nothing,
+            CurrentHead::Unclaimed(u) => {
+                let held = u.delivery;
+                DeliverySlot::Held(held)
+            }
+            CurrentHead::Preparing(u) => {
+                let held = u.delivery;
+                DeliverySlot::Held(held)
+            }
+            CurrentHead::Settled(s) => {
+                let held = s.delivery;
+                DeliverySlot::Held(held)
+            }
+        }
+    }
+
+    pub fn anchor(self) -> AnchorSlot
+        ensures { λ r. ⌜ r ≡ anchorOf (delivery self) ⌝ }
+    {
+        match self.delivery() {
+            DeliverySlot::Nothing => AnchorSlot::Nothing,
+            DeliverySlot::Held(held) => {
+                let anchor = held.anchor;
+                AnchorSlot::At(anchor)
+            }
+        }
+    }
+
+    pub fn repeated_by(self, anchor: ReadAnchor, parent_hash: Hash) -> Redelivery
+        ensures { λ r. ⌜ r ≡ repeats (delivery self) anchor «parent_hash» ⌝ }
+    {
+        match self.delivery() {
+            DeliverySlot::Nothing => Redelivery::New,
+            DeliverySlot::Held(held) => held.repeated_by(anchor, parent_hash),
+        }
+    }
+
+    // The end that the current attempt has published.
+    pub fn published(self) -> HeadCompletion
+        ensures { λ r. ⌜ r ≡ published self ⌝ }
+    {
+        match self {
+            CurrentHead::Absent => HeadCompletion::Open,
+            CurrentHead::Unclaimed(u) => {
+                let attempt = u.attempt;
+                attempt.end
+            }
+            CurrentHead::Preparing(u) => {
+                let attempt = u.attempt;
+                attempt.end
+            }
+            CurrentHead::Settled(s) => {
+                let attempt = s.attempt;
+                attempt.end
+            }
+        }
+    }
+
+    // The Rust's `provisional().is_some()`.
+    pub fn unsettled(self) -> bool
+        ensures { λ r. ⌜ r ≡ unsettled self ⌝ }
+    {
+        match self {
+            CurrentHead::Absent => false,
+            CurrentHead::Unclaimed(_) => true,
+            CurrentHead::Preparing(_) => true,
+            CurrentHead::Settled(_) => false,
+        }
+    }
+
+    pub fn preparing_at(self, anchor: ReadAnchor) -> bool
+        ensures { λ r. ⌜ r ≡ preparingAt self anchor ⌝ }
+    {
+        match self {
+            CurrentHead::Absent => false,
+            CurrentHead::Unclaimed(_) => false,
+            CurrentHead::Preparing(u) => same_anchor(u.delivery.anchor, anchor),
+            CurrentHead::Settled(_) => false,
+        }
+    }
+
+    pub fn report(self) -> LastReport
+        ensures { λ r. ⌜ r ≡ report self ⌝ }
+    {
+        match self {
+            CurrentHead::Absent => LastReport::Nothing,
+            CurrentHead::Unclaimed(_) => LastReport::Nothing,
+            CurrentHead::Preparing(_) => LastReport::Nothing,
+            CurrentHead::Settled(s) => s.report,
+        }
+    }
+
+    pub fn claimed(self, epoch: Epoch) -> CurrentHead
+        ensures { λ r. ⌜ r ≡ claimedHead self epoch ⌝ }
+    {
+        match self {
+            CurrentHead::Absent => self,
+            CurrentHead::Unclaimed(u) => {
+                let attempt = ClaimAttempt::minted(epoch);
+                CurrentHead::Preparing(UnsettledHead { attempt, ..u })
+            }
+            CurrentHead::Preparing(_) => self,
+            CurrentHead::Settled(_) => self,
+        }
+    }
+
+    pub fn owned_by(self, claim: PrepareClaim) -> bool
+        ensures { λ r. ⌜ r ≡ ownedBy self claim ⌝ }
+    {
+        match self {
+            CurrentHead::Absent => false,
+            CurrentHead::Unclaimed(_) => false,
+            CurrentHead::Preparing(u) => u.owned_by(claim),
+            CurrentHead::Settled(_) => false,
+        }
+    }
+
+    // The caller has seen that the claim owns the head.
+    pub fn released(self) -> CurrentHead
+        ensures { λ r. ⌜ r ≡ releasedHead self ⌝ }
+    {
+        match self {
+            CurrentHead::Absent => self,
+            CurrentHead::Unclaimed(_) => self,
+            CurrentHead::Preparing(u) => {
+                let old = u.attempt;
+                let attempt = old.publish(HeadCompletion::Abandoned);
+                CurrentHead::Unclaimed(UnsettledHead { attempt, ..u })
+            }
+            CurrentHead::Settled(_) => self,
+        }
+    }
+
+    // The epoch counter after a settle: an abandoned attempt's end is not rewritten, so the settle takes a new epoch.
+    pub fn settling_epoch(self, epoch: Epoch) -> Epoch
+        ensures { λ r. ⌜ r ≡ settlingEpoch self epoch ⌝ }
+    {
+        match self {
+            CurrentHead::Absent => epoch,
+            CurrentHead::Unclaimed(u) => { if u.abandoned() { epoch.next() } else { epoch } }
+            CurrentHead::Preparing(_) => epoch,
+            CurrentHead::Settled(_) => epoch,
+        }
+    }
+
+    // `epoch` is the epoch counter after the settle.
+    pub fn settled(self, epoch: Epoch, report: LastReport) -> CurrentHead
+        ensures { λ r. ⌜ r ≡ settledHead self epoch report ⌝ }
+    {
+        match self {
+            CurrentHead::Absent => self,
+            CurrentHead::Unclaimed(u) => {
+                let delivery = u.delivery;
+                let old = u.attempt;
+                if u.abandoned() {
+                    let attempt = ClaimAttempt::settled(epoch);
+                    CurrentHead::Settled(SettledHead {
+                        delivery,
+                        report,
+                        attempt,
+                    })
+                } else {
+                    let attempt = old.publish(HeadCompletion::Settled);
+                    CurrentHead::Settled(SettledHead {
+                        delivery,
+                        report,
+                        attempt,
+                    })
+                }
+            }
+            CurrentHead::Preparing(u) => {
+                let delivery = u.delivery;
+                let old = u.attempt;
+                let attempt = old.publish(HeadCompletion::Settled);
+                CurrentHead::Settled(SettledHead {
+                    delivery,
+                    report,
+                    attempt,
+                })
+            }
+            CurrentHead::Settled(s) => {
+                let old = s.attempt;
+                let attempt = old.publish(HeadCompletion::Settled);
+                CurrentHead::Settled(SettledHead {
+                    report,
+                    attempt,
+                    ..s
+                })
+            }
+        }
+    }
+}
+
+// Only a preparing head has waiters parked on it.
+pub fn wake_current(
+    end: HeadCompletion,
+    current: CurrentHead,
+    waiters: [WaiterSlot; 16],
+) -> [WaiterSlot; 16]
+    ensures { λ r. ⌜ r ≡ wakeCurrent end current waiters ⌝ }
+{
+    match current {
+        CurrentHead::Absent => waiters,
+        CurrentHead::Unclaimed(_) => waiters,
+        CurrentHead::Preparing(u) => { wake(end, u.delivery.anchor, waiters) }
+        CurrentHead::Settled(_) => waiters,
+    }
+}
