@@ -56,3 +56,7 @@ raise Counter.AlreadyCurrent s = statsOf (s .delivered) (s .repeated) (s .supers
 raise Counter.Discarded s = statsOf (s .delivered) (s .repeated) (s .superseded) (s .settled) (s .«already_current») (up (s .discarded)) (s .«ready_views») (s .«cold_views»)
 raise Counter.ReadyViews s = statsOf (s .delivered) (s .repeated) (s .superseded) (s .settled) (s .«already_current») (s .discarded) (up (s .«ready_views»)) (s .«cold_views»)
 raise Counter.ColdViews s = statsOf (s .delivered) (s .repeated) (s .superseded) (s .settled) (s .«already_current») (s .discarded) (s .«ready_views») (up (s .«cold_views»))
+
+-- one of ready-views and cold-views rises: `HeadLifecycle::record_view`
+unfoldable pub recordView : Bool → HeadStats → HeadStats
+recordView ready s = if ready (raise Counter.ReadyViews s) (raise Counter.ColdViews s)

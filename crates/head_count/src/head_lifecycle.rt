@@ -1,6 +1,6 @@
 // From head_lifecycle.rs: `HeadStats`, `HeadCompletion`, `ClaimAttempt`. The waiters stand for the receivers of its `watch` channels.
 ghost use mathlib.Core.Path.{_≡_};
-ghost use Rattle.head_count.specs.Counters.{up, nextSeq, sameSeq, nextEpoch, sameEpoch, raise, noneCounted};
+ghost use Rattle.head_count.specs.Counters.{up, nextSeq, sameSeq, nextEpoch, sameEpoch, raise, recordView, noneCounted};
 ghost use Rattle.head_count.specs.Attempts.{firstEnd, minted, settled, publish};
 ghost use Rattle.head_count.specs.Waiters.{woken, wake};
 use head_anchor::storage_memo::ReadAnchor;
@@ -145,6 +145,17 @@ impl HeadStats {
                 cold_views: raised(self.cold_views),
                 ..self
             },
+        }
+    }
+
+    // A view was answered, ready or cold.
+    pub fn with_view(self, ready: bool) -> HeadStats
+        ensures { λ r. ⌜ r ≡ recordView ready self ⌝ }
+    {
+        if ready {
+            self.raise(Counter::ReadyViews)
+        } else {
+            self.raise(Counter::ColdViews)
         }
     }
 }
