@@ -1,0 +1,10 @@
+use Rattle.head_apply.specs.Parts.{settleAs}
+use Rattle.head_apply.proofs.head_lifecycle.settle_as.Statement.{statement}
+use Rattle.head_apply.proofs.head_lifecycle.settle_as.Tie as tie
+
+pub settle-as-spec : {M : Type 1} → statement M
+unfolding settleAs
+settle-as-spec = tie.close (tie.spec
+    (λ c κs. tt)
+    (λ c κs. tt)
+    (λ c. rw (← c .before .settle .ensures, ← c .wake-current .ensures)))

@@ -1,0 +1,13 @@
+use Rattle.head_driver.proofs.Replied.{replied}
+use Rattle.head_driver.specs.Calls.{release}
+use Rattle.head_driver.proofs.head_lifecycle.release.Statement.{statement}
+use Rattle.head_driver.proofs.head_lifecycle.release.Tie as tie
+
+pub release-spec : {M : Type 1} → statement M
+unfolding release
+release-spec = tie.close (tie.spec
+    (λ c κs. tt)
+    (λ c κs. tt)
+    (λ c κs. tt)
+    (λ c. replied (rw (← c .before .before .before .owned-by .ensures, c .before .before .if1 .taken, ← c .before .release .ensures, ← c .wake-current .ensures)))
+    (λ c. replied (rw (← c .before .owned-by .ensures, c .if1 .left))))

@@ -1,0 +1,10 @@
+use Rattle.head_driver.specs.Parts.{viewed}
+use Rattle.head_driver.proofs.head_lifecycle.viewed.Statement.{statement}
+use Rattle.head_driver.proofs.head_lifecycle.viewed.Tie as tie
+
+pub viewed-spec : {M : Type 1} → statement M
+unfolding viewed
+viewed-spec = tie.close (tie.spec
+    (λ c κs. tt)
+    (λ c κs. tt)
+    (λ c. rw (← c .before .record-view .ensures, ← c .with-life .ensures)))

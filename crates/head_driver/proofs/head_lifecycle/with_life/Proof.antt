@@ -1,0 +1,9 @@
+use mathlib.Core.Path.{refl}
+use Rattle.head_driver.specs.Parts.{withLife}
+use Rattle.head_driver.proofs.head_lifecycle.with_life.Statement.{statement}
+use Rattle.head_driver.proofs.head_lifecycle.with_life.Tie as tie
+
+pub with-life-spec : {M : Type 1} → statement M
+unfolding withLife
+with-life-spec = tie.close (tie.spec
+    (λ c. refl))

@@ -1,0 +1,213 @@
+// From head_lifecycle.rs: `BalHeadDriver` and its calls. A call takes the driver by value and gives it back with its answer.
+ghost use mathlib.Core.Path.{_≡_};
+ghost use Rattle.head_driver.specs.Answers.{Replies, outcomeSaid, said};
+ghost use Rattle.head_driver.specs.Calls.{deliver, claim, release, snapshot};
+ghost use Rattle.head_driver.specs.Parts.{withLife, deliverAs, claimAs, viewed};
+use hash::Hash;
+use head_anchor::read_hub::Link;
+use head_anchor::storage_memo::AnchorSlot;
+use head_anchor::storage_memo::ReadAnchor;
+use head_count::head_lifecycle::Counter;
+use head_count::head_lifecycle::Epoch;
+use head_count::head_lifecycle::HeadCompletion;
+use head_count::head_lifecycle::HeadStats;
+use head_count::head_lifecycle::Seq;
+use head_count::head_lifecycle::WaiterSlot;
+use head_current::head_lifecycle::HeadTicket;
+use head_current::head_lifecycle::LastReport;
+use head_current::head_lifecycle::PrepareClaim;
+use head_current::head_lifecycle::Redelivery;
+use head_current::head_lifecycle::wake_current;
+use head_life::head_lifecycle::ClaimStart;
+use head_life::head_lifecycle::HeadLifecycle;
+use head_life::head_lifecycle::HeadOutcome;
+use head_life::head_lifecycle::HeadView;
+
+pub struct Driver {
+    pub life: HeadLifecycle,
+    pub waiters: [WaiterSlot; 16],
+}
+
+pub enum Answer {
+    Ticket(Seq),
+    Claimed(Epoch),
+    Done,
+    Outcome(HeadOutcome),
+    View(HeadView),
+    Parked,
+    Completion(HeadCompletion),
+    Link(Link),
+    Report(LastReport),
+    Stats(HeadStats),
+    Heads(AnchorSlot, AnchorSlot, AnchorSlot),
+    ListAtOdds,
+    WaiterOutOfRange,
+    WaiterTaken,
+    WaiterFree,
+}
+
+pub struct Reply {
+    pub driver: Driver,
+    pub answer: Answer,
+}
+
+pub(crate) fn outcome_number(outcome: HeadOutcome) -> u64
+    ensures { λ r. ⌜ r ≡ outcomeSaid outcome .number ⌝ }
+{
+    match outcome {
+        HeadOutcome::Settled(_) => 0,
+        HeadOutcome::AlreadySettled => 13,
+        HeadOutcome::InFlight => 14,
+        HeadOutcome::Superseded(_) => 11,
+        HeadOutcome::Foreign(_, _) => 12,
+    }
+}
+
+impl Answer {
+    // The refusal's number, or 0 where the call was accepted.
+    pub fn number(self) -> u64
+        ensures { λ r. ⌜ r ≡ said self .number ⌝ }
+    {
+        match self {
+            Answer::Ticket(_) => 0,
+            Answer::Claimed(_) => 0,
+            Answer::Done => 0,
+            Answer::Outcome(outcome) => outcome_number(outcome),
+            Answer::View(_) => 0,
+            Answer::Parked => 0,
+            Answer::Completion(_) => 0,
+            Answer::Link(_) => 0,
+            Answer::Report(_) => 0,
+            Answer::Stats(_) => 0,
+            Answer::Heads(_, _, _) => 0,
+            Answer::ListAtOdds => 2,
+            Answer::WaiterOutOfRange => 3,
+            Answer::WaiterTaken => 15,
+            Answer::WaiterFree => 16,
+        }
+    }
+}
+
+pub fn with_life(d: Driver, life: HeadLifecycle) -> Driver
+    ensures { λ r. ⌜ r ≡ withLife d life ⌝ }
+{
+    let mut next = d;
+    next.life = life;
+    next
+}
+
+pub(crate) fn deliver_as(
+    d: Driver,
+    anchor: ReadAnchor,
+    parent_hash: Hash,
+    cold: u64,
+    redelivery: Redelivery,
+) -> Reply
+    ensures { λ r. ⌜ r ≡ deliverAs d anchor «parent_hash» cold redelivery ⌝ }
+{
+    let life = d.life;
+    match redelivery {
+        Redelivery::New => {
+            let current = life.current;
+            let waiters = d.waiters;
+            let next = life.deliver(anchor, parent_hash, cold);
+            let woken = wake_current(HeadCompletion::Superseded, current, waiters);
+            let seq = life.seq.next();
+            Reply {
+                driver: Driver {
+                    life: next,
+                    waiters: woken,
+                },
+                answer: Answer::Ticket(seq),
+            }
+        }
+        Redelivery::Of(seq) => {
+            let next = life.count(Counter::Repeated);
+            Reply {
+                driver: with_life(d, next),
+                answer: Answer::Ticket(seq),
+            }
+        }
+    }
+}
+
+pub fn deliver(d: Driver, anchor: ReadAnchor, parent_hash: Hash, cold: u64) -> Reply
+    ensures { λ r. ⌜ Replies r (deliver d anchor «parent_hash» cold) ⌝ }
+{
+    let life = d.life;
+    let current = life.current;
+    deliver_as(
+        d,
+        anchor,
+        parent_hash,
+        cold,
+        current.repeated_by(anchor, parent_hash),
+    )
+}
+
+pub(crate) fn claim_as(d: Driver, start: ClaimStart) -> Reply
+    ensures { λ r. ⌜ r ≡ claimAs d start ⌝ }
+{
+    match start {
+        ClaimStart::Claimed(epoch) => {
+            let next = d.life.claimed(epoch);
+            Reply {
+                driver: with_life(d, next),
+                answer: Answer::Claimed(epoch),
+            }
+        }
+        ClaimStart::Refused(outcome) => Reply {
+            driver: d,
+            answer: Answer::Outcome(outcome),
+        },
+    }
+}
+
+pub fn claim(d: Driver, ticket: HeadTicket) -> Reply
+    ensures { λ r. ⌜ Replies r (claim d ticket) ⌝ }
+{
+    claim_as(d, d.life.claim(ticket))
+}
+
+pub fn release(d: Driver, claim: PrepareClaim) -> Reply
+    ensures { λ r. ⌜ Replies r (release d claim) ⌝ }
+{
+    let life = d.life;
+    let current = life.current;
+    let waiters = d.waiters;
+    if current.owned_by(claim) {
+        let next = life.release();
+        let woken = wake_current(HeadCompletion::Abandoned, current, waiters);
+        Reply {
+            driver: Driver {
+                life: next,
+                waiters: woken,
+            },
+            answer: Answer::Done,
+        }
+    } else {
+        Reply {
+            driver: d,
+            answer: Answer::Done,
+        }
+    }
+}
+
+// Counts the view and answers what is shown of it.
+pub fn viewed(d: Driver, view: HeadView, shown: HeadView) -> Reply
+    ensures { λ r. ⌜ r ≡ viewed d view shown ⌝ }
+{
+    let readiness = view.readiness;
+    let next = d.life.record_view(readiness);
+    Reply {
+        driver: with_life(d, next),
+        answer: Answer::View(shown),
+    }
+}
+
+pub fn snapshot(d: Driver, anchor: ReadAnchor, spare: u64) -> Reply
+    ensures { λ r. ⌜ Replies r (snapshot d anchor spare) ⌝ }
+{
+    let view = d.life.lookup(anchor, spare);
+    viewed(d, view, view)
+}

@@ -1,0 +1,11 @@
+use Rattle.head_life.specs.Generations.{previousAfter}
+use Rattle.head_life.proofs.delta_snapshot.GenerationSlot.previous_after.Statement.{statement}
+use Rattle.head_life.proofs.delta_snapshot.GenerationSlot.previous_after.Tie as tie
+
+pub previous-after-spec : {M : Type 1} → statement M
+unfolding previousAfter
+previous-after-spec = tie.close (tie.spec
+    (λ c. c .match .keys1)
+    (λ c. c .match .keys2)
+    (λ c. rw (c .enum-told .given .1))
+    (λ c. rw (c .enum-told2 .given .1)))

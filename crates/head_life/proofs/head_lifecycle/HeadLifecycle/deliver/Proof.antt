@@ -1,0 +1,16 @@
+use Rattle.head_life.specs.Deliver.{delivered}
+use Rattle.head_life.proofs.head_lifecycle.HeadLifecycle.deliver.Statement.{statement}
+use Rattle.head_life.proofs.head_lifecycle.HeadLifecycle.deliver.Tie as tie
+
+pub deliver-spec : {M : Type 1} → statement M
+unfolding delivered
+deliver-spec = tie.close (tie.spec
+    (λ c κs. tt)
+    (λ c κs. tt)
+    (λ c κs. tt)
+    (λ c κs. tt)
+    (λ c κs. tt)
+    (λ c κs. tt)
+    (λ c κs. tt)
+    (λ c κs. tt)
+    (λ c. rw (← c .before .before .before .before .before .before .before .before .next .ensures, ← c .before .before .before .before .before .before .before .anchor .ensures, ← c .before .before .before .before .before .before .holds .ensures, ← c .before .before .before .before .before .new-head .ensures, ← c .before .before .before .before .delivery .ensures, ← c .before .before .before .replaced .ensures, ← c .before .before .unsettled .ensures, ← c .before .count-delivery .ensures)))

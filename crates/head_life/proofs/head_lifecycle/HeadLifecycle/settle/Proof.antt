@@ -1,0 +1,13 @@
+use Rattle.head_life.specs.Apply.{settle}
+use Rattle.head_life.proofs.head_lifecycle.HeadLifecycle.settle.Statement.{statement}
+use Rattle.head_life.proofs.head_lifecycle.HeadLifecycle.settle.Tie as tie
+
+pub settle-spec : {M : Type 1} → statement M
+unfolding settle
+settle-spec = tie.close (tie.spec
+    (λ c κs. tt)
+    (λ c κs. tt)
+    (λ c κs. tt)
+    (λ c κs. tt)
+    (λ c κs. tt)
+    (λ c. rw (← c .before .before .before .before .before .settling-epoch .ensures, ← c .before .before .before .before .settled .ensures, ← c .before .before .before .settled-readiness .ensures, ← c .before .before .previous-after .ensures, ← c .before .raise .ensures)))

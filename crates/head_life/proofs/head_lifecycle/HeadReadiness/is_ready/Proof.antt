@@ -1,0 +1,11 @@
+use Rattle.head_life.specs.Generations.{isReady}
+use Rattle.head_life.proofs.head_lifecycle.HeadReadiness.is_ready.Statement.{statement}
+use Rattle.head_life.proofs.head_lifecycle.HeadReadiness.is_ready.Tie as tie
+
+pub is-ready-spec : {M : Type 1} → statement M
+unfolding isReady
+is-ready-spec = tie.close (tie.spec
+    (λ c. c .match .keys1)
+    (λ c. c .match .keys2)
+    (λ c. rw (c .enum-told .given .1))
+    (λ c. rw (c .enum-told2 .given .1)))

@@ -1,0 +1,50 @@
+-- Document 01, "What contracts say": a new driver's lifecycle; a lifecycle with one counter raised; and `completion`. The Rust: `HeadLifecycle`, of head_lifecycle.rs.
+use Rattle.hash.specs.Logic.{if}
+use Rattle.head_anchor.specs.Anchors.{holds}
+use Rattle.head_count.specs.Counters.{epochOf, noneCounted, raise, recordView, seqOf}
+use Rattle.head_current.specs.Heads.{anchorOf, delivery, published}
+use Rattle.head_anchor.specs.declared.storage_memo.AnchorSlot.{AnchorSlot}
+use Rattle.head_anchor.specs.declared.storage_memo.ReadAnchor.{ReadAnchor}
+use Rattle.head_count.specs.declared.head_lifecycle.Counter.{Counter}
+use Rattle.head_count.specs.declared.head_lifecycle.HeadCompletion.{HeadCompletion}
+use Rattle.head_count.specs.declared.head_lifecycle.HeadStats.{HeadStats}
+use Rattle.head_current.specs.declared.head_lifecycle.CurrentHead.{CurrentHead}
+use Rattle.head_life.specs.Generations.{isReady}
+use Rattle.head_life.specs.declared.delta_snapshot.GenerationSlot.{GenerationSlot}
+use Rattle.head_life.specs.declared.head_lifecycle.HeadLifecycle.{HeadLifecycle}
+use Rattle.head_life.specs.declared.head_lifecycle.HeadReadiness.{HeadReadiness}
+
+-- no current head, no superseded anchor, nothing installed or previous, all counters 0
+unfoldable pub noHead : HeadLifecycle
+noHead = record {
+  current = CurrentHead.Absent;
+  superseded = AnchorSlot.Nothing;
+  installed = GenerationSlot.Nothing;
+  previous = GenerationSlot.Nothing;
+  seq = seqOf 0;
+  «claim_epoch» = epochOf 0;
+  stats = noneCounted;
+}
+
+abbrev pub withStats : HeadLifecycle → HeadStats → HeadLifecycle
+withStats l s = record {
+  current = l .current;
+  superseded = l .superseded;
+  installed = l .installed;
+  previous = l .previous;
+  seq = l .seq;
+  «claim_epoch» = l .«claim_epoch»;
+  stats = s;
+}
+
+-- that counter plus 1, and nothing else
+unfoldable pub counted : HeadLifecycle → Counter → HeadLifecycle
+counted l counter = withStats l (raise counter (l .stats))
+
+-- one of ready-views and cold-views rises by that readiness: `record_view`
+unfoldable pub viewCounted : HeadLifecycle → HeadReadiness → HeadLifecycle
+viewCounted l readiness = withStats l (recordView (isReady readiness) (l .stats))
+
+-- END: none, or the current attempt's end if the anchor is current: `HeadLifecycle::completion`
+unfoldable pub completion : HeadLifecycle → ReadAnchor → HeadCompletion
+completion l a = if (holds (anchorOf (delivery (l .current))) a) (published (l .current)) HeadCompletion.Open

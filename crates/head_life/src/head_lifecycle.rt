@@ -1,0 +1,443 @@
+// From head_lifecycle.rs: `HeadCold`, `HeadReadiness`, `HeadView`, `HeadOutcome`, `ClaimStart`, `ApplyPlan`, and `HeadLifecycle` with its methods by value.
+ghost use mathlib.Core.Path.{_≡_};
+ghost use Rattle.head_life.specs.Generations.{settledReadiness, isReady};
+ghost use Rattle.head_life.specs.Deliver.{replaced, countReplaced, countDelivery, newHead, delivered};
+ghost use Rattle.head_life.specs.Claim.{claimGate, claimStart, claimed, released};
+ghost use Rattle.head_life.specs.Apply.{planHeld, planApply, settle};
+ghost use Rattle.head_life.specs.Snapshot.{spareReason, spareView, generationView, provisionalView, currentView, view};
+ghost use Rattle.head_life.specs.State.{noHead, counted, viewCounted, completion};
+use crate::delta_snapshot::Generation;
+use crate::delta_snapshot::GenerationSlot;
+use hash::Hash;
+use head_anchor::bal_prefetch::BalSkip;
+use head_anchor::read_hub::CarryOutcome;
+use head_anchor::read_hub::Link;
+use head_anchor::storage_memo::AnchorSlot;
+use head_anchor::storage_memo::ReadAnchor;
+use head_anchor::storage_memo::holds;
+use head_anchor::storage_memo::same_anchor;
+use head_count::head_lifecycle::ClaimAttempt;
+use head_count::head_lifecycle::Counter;
+use head_count::head_lifecycle::Epoch;
+use head_count::head_lifecycle::HeadCompletion;
+use head_count::head_lifecycle::HeadStats;
+use head_count::head_lifecycle::Seq;
+use head_current::head_lifecycle::CurrentHead;
+use head_current::head_lifecycle::DeliverySlot;
+use head_current::head_lifecycle::HeadDelivery;
+use head_current::head_lifecycle::HeadTicket;
+use head_current::head_lifecycle::LastReport;
+use head_current::head_lifecycle::SettledHead;
+use head_current::head_lifecycle::UnsettledHead;
+
+pub enum HeadCold {
+    Unprepared,
+    Superseded,
+    Undelivered,
+    Abandoned,
+    Settled(Link, BalSkip),
+}
+
+pub enum HeadReadiness {
+    Ready,
+    Cold(HeadCold),
+}
+
+// Where a view's handle comes from.
+pub enum Source {
+    Installed,
+    Provisional,
+    Previous,
+    Spare,
+}
+
+pub struct HeadView {
+    pub source: Source,
+    pub handle: u64,
+    pub readiness: HeadReadiness,
+}
+
+pub enum HeadOutcome {
+    Settled(CarryOutcome),
+    AlreadySettled,
+    InFlight,
+    Superseded(ReadAnchor),
+    Foreign(ReadAnchor, ReadAnchor),
+}
+
+pub enum ClaimStart {
+    Claimed(Epoch),
+    Refused(HeadOutcome),
+}
+
+// A refusal that is counted as discarded stands apart from one that is not.
+pub enum ApplyPlan {
+    Refused(HeadOutcome),
+    Discarded(HeadOutcome),
+    Admitted(HeadDelivery),
+}
+
+pub struct HeadLifecycle {
+    pub current: CurrentHead,
+    pub superseded: AnchorSlot,
+    pub installed: GenerationSlot,
+    pub previous: GenerationSlot,
+    pub seq: Seq,
+    pub claim_epoch: Epoch,
+    pub stats: HeadStats,
+}
+
+pub(crate) fn settled_readiness(outcome: CarryOutcome) -> HeadReadiness
+    ensures { λ r. ⌜ r ≡ settledReadiness outcome ⌝ }
+{
+    match outcome {
+        CarryOutcome::Carried(_) => HeadReadiness::Ready,
+        CarryOutcome::Cold(link, skip) => HeadReadiness::Cold(HeadCold::Settled(link, skip)),
+    }
+}
+
+impl HeadReadiness {
+    pub fn is_ready(self) -> bool
+        ensures { λ r. ⌜ r ≡ isReady self ⌝ }
+    {
+        match self {
+            HeadReadiness::Ready => true,
+            HeadReadiness::Cold(_) => false,
+        }
+    }
+}
+
+// The superseded anchor after a delivery that replaces what was held.
+pub(crate) fn replaced(held: DeliverySlot, old: AnchorSlot) -> AnchorSlot
+    ensures { λ r. ⌜ r ≡ replaced held old ⌝ }
+{
+    match held {
+        DeliverySlot::Nothing => old,
+        DeliverySlot::Held(d) => {
+            let anchor = d.anchor;
+            AnchorSlot::At(anchor)
+        }
+    }
+}
+
+pub(crate) fn count_replaced(unsettled: bool, stats: HeadStats) -> HeadStats
+    ensures { λ r. ⌜ r ≡ countReplaced unsettled stats ⌝ }
+{
+    if unsettled {
+        stats.raise(Counter::Superseded)
+    } else {
+        stats
+    }
+}
+
+// `here`: the delivered anchor is installed.
+pub(crate) fn count_delivery(here: bool, unsettled: bool, stats: HeadStats) -> HeadStats
+    ensures { λ r. ⌜ r ≡ countDelivery here unsettled stats ⌝ }
+{
+    let counted = count_replaced(unsettled, stats).raise(Counter::Delivered);
+    if here {
+        counted.raise(Counter::AlreadyCurrent)
+    } else {
+        counted
+    }
+}
+
+pub(crate) fn new_head(here: bool, delivery: HeadDelivery, cold: u64) -> CurrentHead
+    ensures { λ r. ⌜ r ≡ newHead here delivery cold ⌝ }
+{
+    if here {
+        let attempt = ClaimAttempt::settled(Epoch(0));
+        CurrentHead::Settled(SettledHead {
+            delivery,
+            report: LastReport::Nothing,
+            attempt,
+        })
+    } else {
+        let attempt = ClaimAttempt::minted(Epoch(0));
+        CurrentHead::Unclaimed(UnsettledHead {
+            delivery,
+            provisional: cold,
+            attempt,
+        })
+    }
+}
+
+// What a claim of a head with that delivery starts: `next` where the ticket is the head's and the head is not installed.
+pub(crate) fn claim_gate(
+    installed: AnchorSlot,
+    held: HeadDelivery,
+    ticket: HeadTicket,
+    next: ClaimStart,
+) -> ClaimStart
+    ensures { λ r. ⌜ r ≡ claimGate installed held ticket next ⌝ }
+{
+    if held.has_ticket(ticket) {
+        if holds(installed, ticket.anchor) {
+            ClaimStart::Refused(HeadOutcome::AlreadySettled)
+        } else {
+            next
+        }
+    } else {
+        let anchor = held.anchor;
+        ClaimStart::Refused(HeadOutcome::Superseded(anchor))
+    }
+}
+
+pub(crate) fn plan_held(
+    installed: AnchorSlot,
+    held: HeadDelivery,
+    ticket: HeadTicket,
+    prepared: ReadAnchor,
+) -> ApplyPlan
+    ensures { λ r. ⌜ r ≡ planHeld installed held ticket prepared ⌝ }
+{
+    let anchor = held.anchor;
+    if held.has_ticket(ticket) {
+        if same_anchor(prepared, anchor) {
+            if holds(installed, anchor) {
+                ApplyPlan::Refused(HeadOutcome::AlreadySettled)
+            } else {
+                ApplyPlan::Admitted(held)
+            }
+        } else {
+            ApplyPlan::Discarded(HeadOutcome::Foreign(prepared, anchor))
+        }
+    } else {
+        ApplyPlan::Discarded(HeadOutcome::Superseded(anchor))
+    }
+}
+
+pub(crate) fn spare_reason(superseded: bool) -> HeadCold
+    ensures { λ r. ⌜ r ≡ spareReason superseded ⌝ }
+{
+    if superseded {
+        HeadCold::Superseded
+    } else {
+        HeadCold::Undelivered
+    }
+}
+
+pub(crate) fn spare_view(superseded: AnchorSlot, anchor: ReadAnchor, spare: u64) -> HeadView
+    ensures { λ r. ⌜ r ≡ spareView superseded anchor spare ⌝ }
+{
+    let reason = spare_reason(holds(superseded, anchor));
+    HeadView {
+        source: Source::Spare,
+        handle: spare,
+        readiness: HeadReadiness::Cold(reason),
+    }
+}
+
+// The generation's view if it is at that anchor, else `other`.
+pub(crate) fn generation_view(
+    source: Source,
+    slot: GenerationSlot,
+    anchor: ReadAnchor,
+    other: HeadView,
+) -> HeadView
+    ensures { λ r. ⌜ r ≡ generationView source slot anchor other ⌝ }
+{
+    match slot {
+        GenerationSlot::Nothing => other,
+        GenerationSlot::Held(g) => {
+            let readiness = g.readiness;
+            if same_anchor(g.anchor, anchor) {
+                HeadView {
+                    source,
+                    handle: g.handle,
+                    readiness,
+                }
+            } else {
+                other
+            }
+        }
+    }
+}
+
+pub(crate) fn provisional_view(head: UnsettledHead, anchor: ReadAnchor, other: HeadView) -> HeadView
+    ensures { λ r. ⌜ r ≡ provisionalView head anchor other ⌝ }
+{
+    if same_anchor(head.delivery.anchor, anchor) {
+        let readiness = HeadReadiness::Cold(HeadCold::Unprepared);
+        HeadView {
+            source: Source::Provisional,
+            handle: head.provisional,
+            readiness,
+        }
+    } else {
+        other
+    }
+}
+
+pub(crate) fn current_view(current: CurrentHead, anchor: ReadAnchor, other: HeadView) -> HeadView
+    ensures { λ r. ⌜ r ≡ currentView current anchor other ⌝ }
+{
+    match current {
+        CurrentHead::Absent => other,
+        CurrentHead::Unclaimed(u) => provisional_view(u, anchor, other),
+        CurrentHead::Preparing(u) => provisional_view(u, anchor, other),
+        CurrentHead::Settled(_) => other,
+    }
+}
+
+impl HeadLifecycle {
+    pub fn new() -> HeadLifecycle
+        ensures { λ r. ⌜ r ≡ noHead ⌝ }
+    {
+        HeadLifecycle {
+            current: CurrentHead::Absent,
+            superseded: AnchorSlot::Nothing,
+            installed: GenerationSlot::Nothing,
+            previous: GenerationSlot::Nothing,
+            seq: Seq(0),
+            claim_epoch: Epoch(0),
+            stats: HeadStats::new(),
+        }
+    }
+
+    pub fn count(self, counter: Counter) -> HeadLifecycle
+        ensures { λ r. ⌜ r ≡ counted self counter ⌝ }
+    {
+        let stats = self.stats.raise(counter);
+        HeadLifecycle { stats, ..self }
+    }
+
+    pub fn record_view(self, readiness: HeadReadiness) -> HeadLifecycle
+        ensures { λ r. ⌜ r ≡ viewCounted self readiness ⌝ }
+    {
+        let stats = self.stats.with_view(readiness.is_ready());
+        HeadLifecycle { stats, ..self }
+    }
+
+    // A delivery that does not repeat the current head.
+    pub fn deliver(self, anchor: ReadAnchor, parent_hash: Hash, cold: u64) -> HeadLifecycle
+        ensures { λ r. ⌜ r ≡ delivered self anchor «parent_hash» cold ⌝ }
+    {
+        let current = self.current;
+        let installed = self.installed;
+        let old = self.superseded;
+        let seq = self.seq.next();
+        let here = holds(installed.anchor(), anchor);
+        let delivery = HeadDelivery {
+            anchor,
+            parent_hash,
+            seq,
+        };
+        let head = new_head(here, delivery, cold);
+        let superseded = replaced(current.delivery(), old);
+        let stats = count_delivery(here, current.unsettled(), self.stats);
+        HeadLifecycle {
+            current: head,
+            superseded,
+            seq,
+            stats,
+            ..self
+        }
+    }
+
+    // What a claim would start; `claimed` then takes it.
+    pub fn claim(self, ticket: HeadTicket) -> ClaimStart
+        ensures { λ r. ⌜ r ≡ claimStart self ticket ⌝ }
+    {
+        let current = self.current;
+        let slot = self.installed;
+        let installed = slot.anchor();
+        let epoch = self.claim_epoch.next();
+        match current {
+            CurrentHead::Absent => {
+                let anchor = ticket.anchor;
+                ClaimStart::Refused(HeadOutcome::Superseded(anchor))
+            }
+            CurrentHead::Unclaimed(u) => claim_gate(installed, u.delivery, ticket, ClaimStart::Claimed(epoch)),
+            CurrentHead::Preparing(u) => claim_gate(installed, u.delivery, ticket, ClaimStart::Refused(HeadOutcome::InFlight)),
+            CurrentHead::Settled(s) => claim_gate(installed, s.delivery, ticket, ClaimStart::Refused(HeadOutcome::AlreadySettled)),
+        }
+    }
+
+    pub fn claimed(self, epoch: Epoch) -> HeadLifecycle
+        ensures { λ r. ⌜ r ≡ claimed self epoch ⌝ }
+    {
+        let old = self.current;
+        let current = old.claimed(epoch);
+        HeadLifecycle {
+            current,
+            claim_epoch: epoch,
+            ..self
+        }
+    }
+
+    // The caller has seen that the claim owns the head.
+    pub fn release(self) -> HeadLifecycle
+        ensures { λ r. ⌜ r ≡ released self ⌝ }
+    {
+        let old = self.current;
+        let current = old.released();
+        HeadLifecycle { current, ..self }
+    }
+
+    pub fn plan_apply(self, ticket: HeadTicket, prepared: ReadAnchor) -> ApplyPlan
+        ensures { λ r. ⌜ r ≡ planApply self ticket prepared ⌝ }
+    {
+        let current = self.current;
+        let slot = self.installed;
+        let installed = slot.anchor();
+        match current.delivery() {
+            DeliverySlot::Nothing => {
+                let anchor = ticket.anchor;
+                ApplyPlan::Discarded(HeadOutcome::Superseded(anchor))
+            }
+            DeliverySlot::Held(held) => plan_held(installed, held, ticket, prepared),
+        }
+    }
+
+    // The Rust's `record_settle` and `settle_current`: an admitted apply at that anchor, with the host's numbers for its hub and its report.
+    pub fn settle(self, anchor: ReadAnchor, outcome: CarryOutcome, handle: u64, report: u64) -> HeadLifecycle
+        ensures { λ r. ⌜ r ≡ settle self anchor outcome handle report ⌝ }
+    {
+        let old = self.current;
+        let prior = self.installed;
+        let claim_epoch = old.settling_epoch(self.claim_epoch);
+        let current = old.settled(claim_epoch, LastReport::Made(outcome, report));
+        let readiness = settled_readiness(outcome);
+        let installed = GenerationSlot::Held(Generation {
+            anchor,
+            handle,
+            readiness,
+        });
+        let previous = prior.previous_after(outcome);
+        let stats = self.stats.raise(Counter::Settled);
+        HeadLifecycle {
+            current,
+            installed,
+            previous,
+            claim_epoch,
+            stats,
+            ..self
+        }
+    }
+
+    // What a snapshot at that anchor reads, first that fits. `spare` is the handle of a cold generation that the host made for this call.
+    pub fn lookup(self, anchor: ReadAnchor, spare: u64) -> HeadView
+        ensures { λ r. ⌜ r ≡ view self anchor spare ⌝ }
+    {
+        let superseded = self.superseded;
+        let previous = self.previous;
+        let current = self.current;
+        let installed = self.installed;
+        let fresh = spare_view(superseded, anchor, spare);
+        let older = generation_view(Source::Previous, previous, anchor, fresh);
+        let newer = current_view(current, anchor, older);
+        generation_view(Source::Installed, installed, anchor, newer)
+    }
+
+    pub fn completion(self, anchor: ReadAnchor) -> HeadCompletion
+        ensures { λ r. ⌜ r ≡ completion self anchor ⌝ }
+    {
+        let current = self.current;
+        if holds(current.anchor(), anchor) {
+            current.published()
+        } else {
+            HeadCompletion::Open
+        }
+    }
+}

@@ -1,9 +1,0 @@
-use Rattle.head_lifecycle.specs.State.{noHead}
-use Rattle.head_lifecycle.proofs.head_lifecycle.HeadLifecycle.new.Statement.{statement}
-use Rattle.head_lifecycle.proofs.head_lifecycle.HeadLifecycle.new.Tie as tie
-
-pub new-spec : {M : Type 1} → statement M
-unfolding noHead
-new-spec = tie.close (tie.spec
-    (λ c κs. tt)
-    (λ c. rw (← c .new .ensures)))
