@@ -1,11 +1,11 @@
 -- Document 01, "Anchor and link": anchors are equal when both parts are. The Rust: `ReadAnchor`'s `==`, of storage_memo.rs.
 use mathlib.Core.Bool.{Bool, true, false}
 use lib.Dec.{eqb}
-use Rattle.hash.specs.Logic.{both}
 use Rattle.hash.specs.Hashes.{sameHash}
+use Rattle.hash.specs.Logic.{both}
+use Rattle.head_anchor.specs.declared.storage_memo.AnchorSlot.{AnchorSlot}
 use Rattle.head_anchor.specs.declared.storage_memo.BlockHash.{BlockHash}
 use Rattle.head_anchor.specs.declared.storage_memo.ReadAnchor.{ReadAnchor}
-use Rattle.head_anchor.specs.declared.storage_memo.AnchorSlot.{AnchorSlot}
 
 -- a hash of 32 bytes, or none
 unfoldable pub sameBlockHash : BlockHash → BlockHash → Bool

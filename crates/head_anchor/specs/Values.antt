@@ -1,13 +1,13 @@
 -- A value as document 01 writes it: a word, a decimal, a hash, or two or three of them in brackets; and how it writes anchors, links, skips and outcomes.
 use Prim.Native.Nat.{ℕ}
-use Rattle.head_anchor.specs.Words.{Word}
 use Rattle.hash.specs.declared.Hash.{Hash}
+use Rattle.head_anchor.specs.Words.{Word}
+use Rattle.head_anchor.specs.declared.bal_prefetch.BalSkip.{BalSkip}
+use Rattle.head_anchor.specs.declared.read_hub.CarryOutcome.{CarryOutcome}
+use Rattle.head_anchor.specs.declared.read_hub.Link.{Link}
+use Rattle.head_anchor.specs.declared.storage_memo.AnchorSlot.{AnchorSlot}
 use Rattle.head_anchor.specs.declared.storage_memo.BlockHash.{BlockHash}
 use Rattle.head_anchor.specs.declared.storage_memo.ReadAnchor.{ReadAnchor}
-use Rattle.head_anchor.specs.declared.storage_memo.AnchorSlot.{AnchorSlot}
-use Rattle.head_anchor.specs.declared.bal_prefetch.BalSkip.{BalSkip}
-use Rattle.head_anchor.specs.declared.read_hub.Link.{Link}
-use Rattle.head_anchor.specs.declared.read_hub.CarryOutcome.{CarryOutcome}
 
 pub data Value : Type 0 where
   word : Word → Value

@@ -1,4 +1,5 @@
 -- The words of document 01's lines, each named as it is written there.
+
 pub data Word : Type 0 where
   ticket claimed done settled view parked completion link report stats heads refused : Word
   installed provisional previous spare : Word

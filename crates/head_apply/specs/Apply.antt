@@ -2,7 +2,6 @@
 use Prim.Native.Nat.{ℕ}
 use Rattle.hash.specs.Logic.{if}
 use Rattle.head_anchor.specs.Lists.{asPrepared}
-use Rattle.head_current.specs.Heads.{report}
 use Rattle.head_driver.specs.Parts.{replyOf}
 use Rattle.head_life.specs.Apply.{planApply}
 use Rattle.head_anchor.specs.declared.read_hub.PreparedBal.{PreparedBal}

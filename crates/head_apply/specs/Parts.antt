@@ -1,7 +1,6 @@
 -- What an apply past its first test is made of: one definition for each function that its code goes through.
 use Prim.Native.Nat.{ℕ}
 use Rattle.head_anchor.specs.Lists.{applyPrepared}
-use Rattle.head_current.specs.Heads.{report}
 use Rattle.head_driver.specs.Parts.{endingWith, replyOf, withLife}
 use Rattle.head_life.specs.Apply.{settle}
 use Rattle.head_life.specs.Generations.{slotAnchor}

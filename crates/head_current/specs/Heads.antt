@@ -1,20 +1,20 @@
 -- Document 01, "Lifecycle": the current head is absent, or unclaimed, preparing or settled. It has anchor, parent hash, delivery number (seq) and attempt.
 -- The Rust: `CurrentHead` and its methods, of head_lifecycle.rs.
 use mathlib.Core.Bool.{Bool, true, false}
-use Rattle.hash.specs.Logic.{if, both}
 use Rattle.hash.specs.Hashes.{sameHash}
+use Rattle.hash.specs.Logic.{both, if}
 use Rattle.head_anchor.specs.Anchors.{sameAnchor}
-use Rattle.hash.specs.declared.Hash.{Hash}
-use Rattle.head_anchor.specs.declared.storage_memo.ReadAnchor.{ReadAnchor}
-use Rattle.head_anchor.specs.declared.storage_memo.AnchorSlot.{AnchorSlot}
 use Rattle.head_count.specs.Counters.{sameSeq}
+use Rattle.hash.specs.declared.Hash.{Hash}
+use Rattle.head_anchor.specs.declared.storage_memo.AnchorSlot.{AnchorSlot}
+use Rattle.head_anchor.specs.declared.storage_memo.ReadAnchor.{ReadAnchor}
 use Rattle.head_count.specs.declared.head_lifecycle.HeadCompletion.{HeadCompletion}
-use Rattle.head_current.specs.declared.head_lifecycle.HeadTicket.{HeadTicket}
-use Rattle.head_current.specs.declared.head_lifecycle.HeadDelivery.{HeadDelivery}
-use Rattle.head_current.specs.declared.head_lifecycle.DeliverySlot.{DeliverySlot}
-use Rattle.head_current.specs.declared.head_lifecycle.Redelivery.{Redelivery}
-use Rattle.head_current.specs.declared.head_lifecycle.LastReport.{LastReport}
 use Rattle.head_current.specs.declared.head_lifecycle.CurrentHead.{CurrentHead}
+use Rattle.head_current.specs.declared.head_lifecycle.DeliverySlot.{DeliverySlot}
+use Rattle.head_current.specs.declared.head_lifecycle.HeadDelivery.{HeadDelivery}
+use Rattle.head_current.specs.declared.head_lifecycle.HeadTicket.{HeadTicket}
+use Rattle.head_current.specs.declared.head_lifecycle.LastReport.{LastReport}
+use Rattle.head_current.specs.declared.head_lifecycle.Redelivery.{Redelivery}
 
 -- what was delivered, whatever became of it: `CurrentHead::delivery`
 unfoldable pub delivery : CurrentHead → DeliverySlot
@@ -66,8 +66,8 @@ preparingAt (CurrentHead.Preparing u) a = sameAnchor (u .delivery .anchor) a
 preparingAt (CurrentHead.Settled s) a = false
 
 -- what the current head's own apply gave, else none: `CurrentHead::report`
-unfoldable pub report : CurrentHead → LastReport
-report CurrentHead.Absent = LastReport.Nothing
-report (CurrentHead.Unclaimed u) = LastReport.Nothing
-report (CurrentHead.Preparing u) = LastReport.Nothing
-report (CurrentHead.Settled s) = s .report
+unfoldable pub lastReport : CurrentHead → LastReport
+lastReport CurrentHead.Absent = LastReport.Nothing
+lastReport (CurrentHead.Unclaimed u) = LastReport.Nothing
+lastReport (CurrentHead.Preparing u) = LastReport.Nothing
+lastReport (CurrentHead.Settled s) = s .report

@@ -1,20 +1,20 @@
 -- Document 01, "Lifecycle": how a claim, a release and an apply move the current head. The Rust: `CurrentHead::claimed`, `released`, `publish_settle` and `settled`, of head_lifecycle.rs.
 use mathlib.Core.Bool.{Bool, true, false}
 use mathlib.Core.List.{List}
-use Rattle.hash.specs.Logic.{if, both}
-use Rattle.head_count.specs.Counters.{sameSeq, sameEpoch, nextEpoch}
-use Rattle.head_count.specs.Attempts.{minted, settled, publish}
+use Rattle.hash.specs.Logic.{both, if}
+use Rattle.head_count.specs.Attempts.{minted, publish, settled}
+use Rattle.head_count.specs.Counters.{nextEpoch, sameEpoch, sameSeq}
 use Rattle.head_count.specs.Waiters.{wake}
+use Rattle.head_count.specs.declared.head_lifecycle.ClaimAttempt.{ClaimAttempt}
 use Rattle.head_count.specs.declared.head_lifecycle.Epoch.{Epoch}
 use Rattle.head_count.specs.declared.head_lifecycle.HeadCompletion.{HeadCompletion}
-use Rattle.head_count.specs.declared.head_lifecycle.ClaimAttempt.{ClaimAttempt}
 use Rattle.head_count.specs.declared.head_lifecycle.WaiterSlot.{WaiterSlot}
-use Rattle.head_current.specs.declared.head_lifecycle.PrepareClaim.{PrepareClaim}
-use Rattle.head_current.specs.declared.head_lifecycle.HeadDelivery.{HeadDelivery}
-use Rattle.head_current.specs.declared.head_lifecycle.UnsettledHead.{UnsettledHead}
-use Rattle.head_current.specs.declared.head_lifecycle.LastReport.{LastReport}
-use Rattle.head_current.specs.declared.head_lifecycle.SettledHead.{SettledHead}
 use Rattle.head_current.specs.declared.head_lifecycle.CurrentHead.{CurrentHead}
+use Rattle.head_current.specs.declared.head_lifecycle.HeadDelivery.{HeadDelivery}
+use Rattle.head_current.specs.declared.head_lifecycle.LastReport.{LastReport}
+use Rattle.head_current.specs.declared.head_lifecycle.PrepareClaim.{PrepareClaim}
+use Rattle.head_current.specs.declared.head_lifecycle.SettledHead.{SettledHead}
+use Rattle.head_current.specs.declared.head_lifecycle.UnsettledHead.{UnsettledHead}
 
 abbrev pub withAttempt : UnsettledHead → ClaimAttempt → UnsettledHead
 withAttempt u t = record { delivery = u .delivery; provisional = u .provisional; attempt = t }

@@ -1,6 +1,6 @@
 // From head_lifecycle.rs: `HeadTicket`, `PrepareClaim`, `HeadDelivery`, `UnsettledHead`, `SettledHead`, `CurrentHead`.
 ghost use mathlib.Core.Path.{_≡_};
-ghost use Rattle.head_current.specs.Heads.{sameDelivery, redelivery, repeats, ticketOf, delivery, anchorOf, published, unsettled, preparingAt, report};
+ghost use Rattle.head_current.specs.Heads.{sameDelivery, redelivery, repeats, ticketOf, delivery, anchorOf, published, unsettled, preparingAt, lastReport};
 ghost use Rattle.head_current.specs.Moves.{claimedHead, owns, ownedBy, releasedHead, abandonment, settlingEpoch, settledHead, wakeCurrent};
 use hash::Hash;
 use hash::both;
@@ -212,7 +212,7 @@ impl CurrentHead {
     }
 
     pub fn report(self) -> LastReport
-        ensures { λ r. ⌜ r ≡ report self ⌝ }
+        ensures { λ r. ⌜ r ≡ lastReport self ⌝ }
     {
         match self {
             CurrentHead::Absent => LastReport::Nothing,

@@ -4,7 +4,7 @@ use Prim.Native.Nat.{ℕ}
 use Rattle.hash.specs.Logic.{if}
 use Rattle.head_anchor.specs.Anchors.{holds, sameAnchor}
 use Rattle.head_count.specs.Counters.{raise}
-use Rattle.head_current.specs.Heads.{delivery, report, ticketOf}
+use Rattle.head_current.specs.Heads.{delivery, ticketOf}
 use Rattle.head_current.specs.Moves.{settledHead, settlingEpoch}
 use Rattle.head_anchor.specs.declared.read_hub.CarryOutcome.{CarryOutcome}
 use Rattle.head_anchor.specs.declared.storage_memo.AnchorSlot.{AnchorSlot}

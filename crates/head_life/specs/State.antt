@@ -1,4 +1,4 @@
--- Document 01, "What contracts say": a new driver's lifecycle; a lifecycle with one counter raised; and `completion`. The Rust: `HeadLifecycle`, of head_lifecycle.rs.
+-- Document 01, "What contracts say": a new driver's lifecycle; a lifecycle with one counter raised; and the end that `completion` answers. The Rust: `HeadLifecycle`, of head_lifecycle.rs.
 use Rattle.hash.specs.Logic.{if}
 use Rattle.head_anchor.specs.Anchors.{holds}
 use Rattle.head_count.specs.Counters.{epochOf, noneCounted, raise, recordView, seqOf}
@@ -46,5 +46,5 @@ unfoldable pub viewCounted : HeadLifecycle → HeadReadiness → HeadLifecycle
 viewCounted l readiness = withStats l (recordView (isReady readiness) (l .stats))
 
 -- END: none, or the current attempt's end if the anchor is current: `HeadLifecycle::completion`
-unfoldable pub completion : HeadLifecycle → ReadAnchor → HeadCompletion
-completion l a = if (holds (anchorOf (delivery (l .current))) a) (published (l .current)) HeadCompletion.Open
+unfoldable pub endAt : HeadLifecycle → ReadAnchor → HeadCompletion
+endAt l a = if (holds (anchorOf (delivery (l .current))) a) (published (l .current)) HeadCompletion.Open

@@ -5,7 +5,7 @@ ghost use Rattle.head_life.specs.Deliver.{replaced, countReplaced, count
 ghost use Rattle.head_life.specs.Claim.{claimGate, claimStart, claimed, released};
 ghost use Rattle.head_life.specs.Apply.{planHeld, planApply, settle};
 ghost use Rattle.head_life.specs.Snapshot.{spareReason, spareView, generationView, provisionalView, currentView, view};
-ghost use Rattle.head_life.specs.State.{noHead, counted, viewCounted, completion};
+ghost use Rattle.head_life.specs.State.{noHead, counted, viewCounted, endAt};
 use crate::delta_snapshot::Generation;
 use crate::delta_snapshot::GenerationSlot;
 use hash::Hash;
@@ -431,7 +431,7 @@ impl HeadLifecycle {
     }
 
     pub fn completion(self, anchor: ReadAnchor) -> HeadCompletion
-        ensures { λ r. ⌜ r ≡ completion self anchor ⌝ }
+        ensures { λ r. ⌜ r ≡ endAt self anchor ⌝ }
     {
         let current = self.current;
         if holds(current.anchor(), anchor) {

@@ -1,9 +1,9 @@
-use Rattle.head_current.specs.Heads.{report}
+use Rattle.head_current.specs.Heads.{lastReport}
 use Rattle.head_current.proofs.head_lifecycle.CurrentHead.report.Statement.{statement}
 use Rattle.head_current.proofs.head_lifecycle.CurrentHead.report.Tie as tie
 
 pub report-spec : {M : Type 1} → statement M
-unfolding report
+unfolding lastReport
 report-spec = tie.close (tie.spec
     (λ c. c .match .keys1)
     (λ c. c .match .keys2)

@@ -1,9 +1,9 @@
-use Rattle.head_life.specs.State.{completion}
+use Rattle.head_life.specs.State.{endAt}
 use Rattle.head_life.proofs.head_lifecycle.HeadLifecycle.completion.Statement.{statement}
 use Rattle.head_life.proofs.head_lifecycle.HeadLifecycle.completion.Tie as tie
 
 pub completion-spec : {M : Type 1} → statement M
-unfolding completion
+unfolding endAt
 completion-spec = tie.close (tie.spec
     (λ c κs. tt)
     (λ c κs. tt)

@@ -1,0 +1,192 @@
+// From head_lifecycle.rs: `completion`, `last_report`, `stats`, `delivered`, `installed` and `previous` of `BalHeadDriver`; and `classify_link`, of read_hub.rs, as a call.
+ghost use mathlib.Core.Path.{_≡_};
+ghost use Rattle.head_driver.specs.Answers.{Replies};
+ghost use Rattle.head_step.specs.Calls.{new, completion, link, report, stats, heads};
+ghost use Rattle.head_step.specs.Inputs.{inputRefusal};
+ghost use Rattle.head_step.specs.Steps.{step};
+ghost use Rattle.head_step.specs.Dispatch.{listRefusal, waiterRefusal, dispatch};
+use hash::Hash;
+use head_anchor::read_hub::PreparedBal;
+use head_anchor::read_hub::as_prepared;
+use head_anchor::read_hub::classify_link;
+use head_anchor::storage_memo::AnchorSlot;
+use head_anchor::storage_memo::ReadAnchor;
+use head_apply::head_lifecycle::apply;
+use head_count::head_lifecycle::Waiter;
+use head_count::head_lifecycle::WaiterSlot;
+use head_current::head_lifecycle::HeadTicket;
+use head_current::head_lifecycle::PrepareClaim;
+use head_driver::head_lifecycle::Answer;
+use head_driver::head_lifecycle::Driver;
+use head_driver::head_lifecycle::Reply;
+use head_driver::head_lifecycle::claim;
+use head_driver::head_lifecycle::deliver;
+use head_driver::head_lifecycle::release;
+use head_driver::head_lifecycle::snapshot;
+use head_life::head_lifecycle::HeadLifecycle;
+use head_waits::head_lifecycle::resume;
+use head_waits::head_lifecycle::wait;
+
+// The calls in demand 3's order. The sheet, which changes nothing, is a line's and not a call's here.
+pub enum Call {
+    Deliver(ReadAnchor, Hash, u64),
+    Claim(HeadTicket),
+    Release(PrepareClaim),
+    Apply(HeadTicket, PreparedBal, u64, u64, u64),
+    Snapshot(ReadAnchor, u64),
+    Wait(u64, ReadAnchor, u64),
+    Resume(u64, u64),
+    Completion(ReadAnchor),
+    Link(AnchorSlot, ReadAnchor, Hash),
+    Report,
+    Stats,
+    Heads,
+}
+
+// Why a call is turned away by its input alone.
+pub enum InputRefusal {
+    Nothing,
+    ListAtOdds,
+    WaiterOutOfRange,
+}
+
+pub fn new() -> Driver
+    ensures { λ r. ⌜ r ≡ new ⌝ }
+{
+    let slot = WaiterSlot {
+        waiter: Waiter::Free,
+    };
+    let life = HeadLifecycle::new();
+    Driver {
+        life,
+        waiters: [slot; 16],
+    }
+}
+
+pub fn completion(d: Driver, anchor: ReadAnchor) -> Reply
+    ensures { λ r. ⌜ Replies r (completion d anchor) ⌝ }
+{
+    Reply {
+        driver: d,
+        answer: Answer::Completion(d.life.completion(anchor)),
+    }
+}
+
+pub fn link(d: Driver, parent: AnchorSlot, child: ReadAnchor, parent_hash: Hash) -> Reply
+    ensures { λ r. ⌜ Replies r (link d parent child «parent_hash») ⌝ }
+{
+    Reply {
+        driver: d,
+        answer: Answer::Link(classify_link(parent, child, parent_hash)),
+    }
+}
+
+pub fn report(d: Driver) -> Reply
+    ensures { λ r. ⌜ Replies r (report d) ⌝ }
+{
+    let life = d.life;
+    let current = life.current;
+    Reply {
+        driver: d,
+        answer: Answer::Report(current.report()),
+    }
+}
+
+pub fn stats(d: Driver) -> Reply
+    ensures { λ r. ⌜ Replies r (stats d) ⌝ }
+{
+    let counted = d.life.stats;
+    Reply {
+        driver: d,
+        answer: Answer::Stats(counted),
+    }
+}
+
+pub fn heads(d: Driver) -> Reply
+    ensures { λ r. ⌜ Replies r (heads d) ⌝ }
+{
+    let life = d.life;
+    let current = life.current;
+    let installed = life.installed;
+    let previous = life.previous;
+    Reply {
+        driver: d,
+        answer: Answer::Heads(current.anchor(), installed.anchor(), previous.anchor()),
+    }
+}
+
+pub(crate) fn list_refusal(list: PreparedBal) -> InputRefusal
+    ensures { λ r. ⌜ r ≡ listRefusal list ⌝ }
+{
+    if as_prepared(list) {
+        InputRefusal::Nothing
+    } else {
+        InputRefusal::ListAtOdds
+    }
+}
+
+pub(crate) fn waiter_refusal(n: u64) -> InputRefusal
+    ensures { λ r. ⌜ r ≡ waiterRefusal n ⌝ }
+{
+    if n < 16 {
+        InputRefusal::Nothing
+    } else {
+        InputRefusal::WaiterOutOfRange
+    }
+}
+
+// Asked before the state is looked at.
+pub fn input_refusal(call: Call) -> InputRefusal
+    ensures { λ r. ⌜ r ≡ inputRefusal call ⌝ }
+{
+    match call {
+        Call::Deliver(_, _, _) => InputRefusal::Nothing,
+        Call::Claim(_) => InputRefusal::Nothing,
+        Call::Release(_) => InputRefusal::Nothing,
+        Call::Apply(_, list, _, _, _) => list_refusal(list),
+        Call::Snapshot(_, _) => InputRefusal::Nothing,
+        Call::Wait(n, _, _) => waiter_refusal(n),
+        Call::Resume(n, _) => waiter_refusal(n),
+        Call::Completion(_) => InputRefusal::Nothing,
+        Call::Link(_, _, _) => InputRefusal::Nothing,
+        Call::Report => InputRefusal::Nothing,
+        Call::Stats => InputRefusal::Nothing,
+        Call::Heads => InputRefusal::Nothing,
+    }
+}
+
+// Each of these is exported too, and tests its input itself: none relies on a check made outside.
+pub(crate) fn dispatch(d: Driver, call: Call) -> Reply
+    ensures { λ r. ⌜ r ≡ dispatch d call ⌝ }
+{
+    match call {
+        Call::Deliver(anchor, parent_hash, cold) => deliver(d, anchor, parent_hash, cold),
+        Call::Claim(ticket) => claim(d, ticket),
+        Call::Release(owner) => release(d, owner),
+        Call::Apply(ticket, list, handle, carried, made) => apply(d, ticket, list, handle, carried, made),
+        Call::Snapshot(anchor, spare) => snapshot(d, anchor, spare),
+        Call::Wait(n, anchor, spare) => wait(d, n, anchor, spare),
+        Call::Resume(n, spare) => resume(d, n, spare),
+        Call::Completion(anchor) => completion(d, anchor),
+        Call::Link(parent, child, parent_hash) => link(d, parent, child, parent_hash),
+        Call::Report => report(d),
+        Call::Stats => stats(d),
+        Call::Heads => heads(d),
+    }
+}
+
+pub fn step(d: Driver, call: Call) -> Reply
+    ensures { λ r. ⌜ Replies r (step d call) ⌝ }
+{
+    match input_refusal(call) {
+        InputRefusal::Nothing => dispatch(d, call),
+        InputRefusal::ListAtOdds => Reply {
+            driver: d,
+            answer: Answer::ListAtOdds,
+        },
+        InputRefusal::WaiterOutOfRange => Reply {
+            driver: d,
+            answer: Answer::WaiterOutOfRange,
+        },
+    }
+}

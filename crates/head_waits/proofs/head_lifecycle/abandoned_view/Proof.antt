@@ -1,0 +1,10 @@
+use Rattle.head_waits.specs.Parts.{abandonedView}
+use Rattle.head_waits.proofs.head_lifecycle.abandoned_view.Statement.{statement}
+use Rattle.head_waits.proofs.head_lifecycle.abandoned_view.Tie as tie
+
+pub abandoned-view-spec : {M : Type 1} → statement M
+unfolding abandonedView
+abandoned-view-spec = tie.close (tie.spec
+    (λ c κs. tt)
+    (λ c. rw (← c .before .is-ready .ensures, c .if1 .taken))
+    (λ c. rw (← c .before .is-ready .ensures, c .if1 .left)))

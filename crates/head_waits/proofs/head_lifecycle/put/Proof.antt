@@ -1,0 +1,9 @@
+use Rattle.head_waits.specs.Parts.{put}
+use Rattle.head_waits.proofs.head_lifecycle.put.Statement.{statement}
+use Rattle.head_waits.proofs.head_lifecycle.put.Tie as tie
+
+pub put-spec : {M : Type 1} → statement M
+unfolding put
+put-spec = tie.close (tie.spec
+    (λ c κs. tt)
+    (λ c. rw (← c .put-slot .ensures)))

@@ -1,0 +1,13 @@
+use Rattle.head_driver.proofs.Replied.{replied}
+use borrow.Author.Tests.{lt-ltb, le-ltb}
+use Rattle.head_waits.specs.Calls.{resume}
+use Rattle.head_waits.proofs.head_lifecycle.resume.Statement.{statement}
+use Rattle.head_waits.proofs.head_lifecycle.resume.Tie as tie
+
+pub resume-spec : {M : Type 1} → statement M
+unfolding resume
+resume-spec = tie.close (tie.spec
+    (λ c κs. tt)
+    (λ c κs. tt)
+    (λ c. replied (rw (lt-ltb _ _ (c .before .before .if1 .taken), ← c .before .waiter-at .ensures, ← c .resume-as .ensures)))
+    (λ c. replied (rw (le-ltb _ _ (c .if1 .left)))))

@@ -1,0 +1,19 @@
+use Rattle.head_waits.specs.Parts.{resumeAs}
+use Rattle.head_waits.proofs.head_lifecycle.resume_as.Statement.{statement}
+use Rattle.head_waits.proofs.head_lifecycle.resume_as.Tie as tie
+
+pub resume-as-spec : {M : Type 1} → statement M
+unfolding resumeAs
+resume-as-spec = tie.close (tie.spec
+    (λ c. c .match .keys1)
+    (λ c. c .match .keys2)
+    (λ c. c .match .keys3)
+    (λ c κs. tt)
+    (λ c κs. tt)
+    (λ c κs. tt)
+    (λ c. c .match .keys4)
+    (λ c κs. tt)
+    (λ c. rw (c .enum-told .given .1))
+    (λ c. rw (c .enum-told2 .given .1))
+    (λ c. rw (c .before .before .before .before .waiter .given .1, ← c .before .before .lookup .ensures, ← c .before .abandoned-view .ensures, ← c .viewed-by .ensures))
+    (λ c. rw (c .before .before .waiter2 .given .1, ← c .join .ensures)))

@@ -1,0 +1,9 @@
+use Rattle.head_waits.specs.Parts.{unowned}
+use Rattle.head_waits.proofs.head_lifecycle.unowned.Statement.{statement}
+use Rattle.head_waits.proofs.head_lifecycle.unowned.Tie as tie
+
+pub unowned-spec : {M : Type 1} → statement M
+unfolding unowned
+unowned-spec = tie.close (tie.spec
+    (λ c κs. tt)
+    (λ c. rw (← c .unowned-readiness .ensures)))

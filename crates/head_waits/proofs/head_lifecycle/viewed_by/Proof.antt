@@ -1,0 +1,10 @@
+use Rattle.head_waits.specs.Parts.{viewedBy}
+use Rattle.head_waits.proofs.head_lifecycle.viewed_by.Statement.{statement}
+use Rattle.head_waits.proofs.head_lifecycle.viewed_by.Tie as tie
+
+pub viewed-by-spec : {M : Type 1} → statement M
+unfolding viewedBy
+viewed-by-spec = tie.close (tie.spec
+    (λ c κs. tt)
+    (λ c κs. tt)
+    (λ c. rw (← c .before .before .viewed .ensures, ← c .put .ensures)))

@@ -1,0 +1,16 @@
+use Rattle.head_waits.specs.Parts.{waitAs}
+use Rattle.head_waits.proofs.head_lifecycle.wait_as.Statement.{statement}
+use Rattle.head_waits.proofs.head_lifecycle.wait_as.Tie as tie
+
+pub wait-as-spec : {M : Type 1} → statement M
+unfolding waitAs
+wait-as-spec = tie.close (tie.spec
+    (λ c. c .match .keys1)
+    (λ c κs. tt)
+    (λ c. c .match .keys2)
+    (λ c. c .match .keys3)
+    (λ c. c .match .keys4)
+    (λ c. rw (c .before .enum-told .given .1, ← c .join .ensures))
+    (λ c. rw (c .enum-told2 .given .1))
+    (λ c. rw (c .enum-told3 .given .1))
+    (λ c. rw (c .enum-told4 .given .1)))

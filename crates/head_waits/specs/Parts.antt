@@ -1,0 +1,73 @@
+-- What the calls of the waiters are made of: one definition for each function that their code goes through.
+use Prim.Native.Nat.{ℕ}
+use mathlib.Core.List.{List}
+use lib.ListN.{getD, set}
+use Rattle.hash.specs.Logic.{if}
+use Rattle.head_count.specs.Waiters.{slotOf}
+use Rattle.head_current.specs.Heads.{preparingAt}
+use Rattle.head_driver.specs.Parts.{replyOf, viewed}
+use Rattle.head_life.specs.Generations.{isReady}
+use Rattle.head_life.specs.Snapshot.{view, viewOf}
+use Rattle.head_anchor.specs.declared.storage_memo.ReadAnchor.{ReadAnchor}
+use Rattle.head_count.specs.declared.head_lifecycle.Waiter.{Waiter}
+use Rattle.head_count.specs.declared.head_lifecycle.WaiterSlot.{WaiterSlot}
+use Rattle.head_driver.specs.declared.head_lifecycle.Answer.{Answer}
+use Rattle.head_driver.specs.declared.head_lifecycle.Driver.{Driver}
+use Rattle.head_driver.specs.declared.head_lifecycle.Reply.{Reply}
+use Rattle.head_life.specs.declared.head_lifecycle.HeadCold.{HeadCold}
+use Rattle.head_life.specs.declared.head_lifecycle.HeadReadiness.{HeadReadiness}
+use Rattle.head_life.specs.declared.head_lifecycle.HeadView.{HeadView}
+use Rattle.head_life.specs.declared.head_lifecycle.Source.{Source}
+
+-- `unprepared` shown as `abandoned`
+unfoldable pub unownedReason : HeadCold → HeadCold
+unownedReason HeadCold.Unprepared = HeadCold.Abandoned
+unownedReason HeadCold.Superseded = HeadCold.Superseded
+unownedReason HeadCold.Undelivered = HeadCold.Undelivered
+unownedReason HeadCold.Abandoned = HeadCold.Abandoned
+unownedReason (HeadCold.Settled link skip) = HeadCold.Settled link skip
+
+unfoldable pub unownedReadiness : HeadReadiness → HeadReadiness
+unownedReadiness HeadReadiness.Ready = HeadReadiness.Ready
+unownedReadiness (HeadReadiness.Cold reason) = HeadReadiness.Cold (unownedReason reason)
+
+unfoldable pub unowned : HeadView → HeadView
+unowned v = viewOf (v .source) (v .handle) (unownedReadiness (v .readiness))
+
+-- the snapshot with reason `abandoned`; if that snapshot was ready, the spare handle is given with source `spare`: `BalHeadDriver::abandoned_view`
+unfoldable pub abandonedView : HeadView → ℕ → HeadView
+abandonedView v spare =
+    if (isReady (v .readiness))
+    (viewOf Source.Spare spare (HeadReadiness.Cold HeadCold.Abandoned))
+    (viewOf (v .source) (v .handle) (HeadReadiness.Cold HeadCold.Abandoned))
+
+-- the waiter of that number
+unfoldable pub waiterAt : List WaiterSlot → ℕ → Waiter
+waiterAt ws n = getD ws n (slotOf Waiter.Free) .waiter
+
+-- the driver with that waiter under that number
+unfoldable pub put : Driver → ℕ → Waiter → Driver
+put d n w = record { life = d .life; waiters = set (d .waiters) n (slotOf w) }
+
+-- a view counts, and frees the number
+unfoldable pub viewedBy : Driver → ℕ → HeadView → HeadView → Reply
+viewedBy d n v shown = replyOf (put (viewed d v shown .driver) n Waiter.Free) (viewed d v shown .answer)
+
+-- parks it if the current head is preparing at that anchor, else answers a view at once, `unprepared` shown as `abandoned`
+unfoldable pub join : Driver → ℕ → ReadAnchor → ℕ → Reply
+join d n a spare =
+    if (preparingAt (d .life .current) a)
+    (replyOf (put d n Waiter.Parked) Answer.Parked)
+    (viewedBy d n (view (d .life) a spare) (unowned (view (d .life) a spare)))
+
+unfoldable pub waitAs : Driver → Waiter → ℕ → ReadAnchor → ℕ → Reply
+waitAs d Waiter.Free n a spare = join d n a spare
+waitAs d Waiter.Parked n a spare = replyOf d Answer.WaiterTaken
+waitAs d (Waiter.Abandoned b) n a spare = replyOf d Answer.WaiterTaken
+waitAs d (Waiter.Ended b) n a spare = replyOf d Answer.WaiterTaken
+
+unfoldable pub resumeAs : Driver → Waiter → ℕ → ℕ → Reply
+resumeAs d Waiter.Free n spare = replyOf d Answer.WaiterFree
+resumeAs d Waiter.Parked n spare = replyOf d Answer.Parked
+resumeAs d (Waiter.Abandoned a) n spare = viewedBy d n (view (d .life) a spare) (abandonedView (view (d .life) a spare) spare)
+resumeAs d (Waiter.Ended a) n spare = join d n a spare

@@ -1,0 +1,201 @@
+// From head_lifecycle.rs: `BalHeadDriver::wait_for_head` and `abandoned_view`. A poll of its future is a call here: the first one `wait`, each later one `resume`.
+ghost use mathlib.Core.Path.{_≡_};
+ghost use lib.ListN.{set};
+ghost use Rattle.head_driver.specs.Answers.{Replies};
+ghost use Rattle.head_waits.specs.Parts.{unownedReason, unownedReadiness, unowned, abandonedView, waiterAt, put, viewedBy, join, waitAs, resumeAs};
+ghost use Rattle.head_waits.specs.Calls.{wait, resume};
+use head_anchor::storage_memo::ReadAnchor;
+use head_count::head_lifecycle::Waiter;
+use head_count::head_lifecycle::WaiterSlot;
+use head_driver::head_lifecycle::Answer;
+use head_driver::head_lifecycle::Driver;
+use head_driver::head_lifecycle::Reply;
+use head_life::head_lifecycle::HeadCold;
+use head_life::head_lifecycle::HeadReadiness;
+use head_life::head_lifecycle::HeadView;
+use head_life::head_lifecycle::Source;
+
+pub(crate) fn unowned_reason(reason: HeadCold) -> HeadCold
+    ensures { λ r. ⌜ r ≡ unownedReason reason ⌝ }
+{
+    match reason {
+        HeadCold::Unprepared => HeadCold::Abandoned,
+        HeadCold::Superseded => HeadCold::Superseded,
+        HeadCold::Undelivered => HeadCold::Undelivered,
+        HeadCold::Abandoned => HeadCold::Abandoned,
+        HeadCold::Settled(link, skip) => HeadCold::Settled(link, skip),
+    }
+}
+
+pub(crate) fn unowned_readiness(readiness: HeadReadiness) -> HeadReadiness
+    ensures { λ r. ⌜ r ≡ unownedReadiness readiness ⌝ }
+{
+    match readiness {
+        HeadReadiness::Ready => HeadReadiness::Ready,
+        HeadReadiness::Cold(reason) => HeadReadiness::Cold(unowned_reason(reason)),
+    }
+}
+
+// What a wait shows of a view that no live preparation owns.
+pub(crate) fn unowned(view: HeadView) -> HeadView
+    ensures { λ r. ⌜ r ≡ unowned view ⌝ }
+{
+    let old = view.readiness;
+    HeadView {
+        readiness: unowned_readiness(old),
+        ..view
+    }
+}
+
+// The answer of a wait that an abandonment ended: never ready, and never a hub that a later retry settled.
+pub(crate) fn abandoned_view(view: HeadView, spare: u64) -> HeadView
+    ensures { λ r. ⌜ r ≡ abandonedView view spare ⌝ }
+{
+    let readiness = view.readiness;
+    let abandoned = HeadReadiness::Cold(HeadCold::Abandoned);
+    if readiness.is_ready() {
+        HeadView {
+            source: Source::Spare,
+            handle: spare,
+            readiness: abandoned,
+        }
+    } else {
+        HeadView {
+            readiness: abandoned,
+            ..view
+        }
+    }
+}
+
+pub(crate) fn put_slot(waiters: [WaiterSlot; 16], n: u64, slot: WaiterSlot) -> [WaiterSlot; 16]
+    ensures { λ r. ⌜ r ≡ set waiters n slot ⌝ }
+{
+    let mut out = waiters;
+    if n < 16 {
+        let i = n as usize;
+        out[i] = slot;
+        out
+    } else {
+        waiters
+    }
+}
+
+pub(crate) fn put(d: Driver, n: u64, waiter: Waiter) -> Driver
+    ensures { λ r. ⌜ r ≡ put d n waiter ⌝ }
+{
+    let old = d.waiters;
+    let waiters = put_slot(old, n, WaiterSlot { waiter });
+    let mut next = d;
+    next.waiters = waiters;
+    next
+}
+
+pub(crate) fn waiter_at(waiters: [WaiterSlot; 16], n: u64) -> Waiter
+    ensures { λ r. ⌜ r ≡ waiterAt waiters n ⌝ }
+{
+    if n < 16 {
+        let i = n as usize;
+        let slot = waiters[i];
+        slot.waiter
+    } else {
+        Waiter::Free
+    }
+}
+
+// A view counts, and frees the number.
+pub(crate) fn viewed_by(d: Driver, n: u64, view: HeadView, shown: HeadView) -> Reply
+    ensures { λ r. ⌜ r ≡ viewedBy d n view shown ⌝ }
+{
+    let counted = head_driver::head_lifecycle::viewed(d, view, shown);
+    let answer = counted.answer;
+    let next = counted.driver;
+    Reply {
+        driver: put(next, n, Waiter::Free),
+        answer,
+    }
+}
+
+// One turn of the Rust's loop: park on the live preparation at that anchor, or answer.
+pub(crate) fn join(d: Driver, n: u64, anchor: ReadAnchor, spare: u64) -> Reply
+    ensures { λ r. ⌜ r ≡ join d n anchor spare ⌝ }
+{
+    let life = d.life;
+    let current = life.current;
+    if current.preparing_at(anchor) {
+        Reply {
+            driver: put(d, n, Waiter::Parked),
+            answer: Answer::Parked,
+        }
+    } else {
+        let view = life.lookup(anchor, spare);
+        viewed_by(d, n, view, unowned(view))
+    }
+}
+
+pub(crate) fn wait_as(d: Driver, waiter: Waiter, n: u64, anchor: ReadAnchor, spare: u64) -> Reply
+    ensures { λ r. ⌜ r ≡ waitAs d waiter n anchor spare ⌝ }
+{
+    match waiter {
+        Waiter::Free => join(d, n, anchor, spare),
+        Waiter::Parked => Reply {
+            driver: d,
+            answer: Answer::WaiterTaken,
+        },
+        Waiter::Abandoned(_) => Reply {
+            driver: d,
+            answer: Answer::WaiterTaken,
+        },
+        Waiter::Ended(_) => Reply {
+            driver: d,
+            answer: Answer::WaiterTaken,
+        },
+    }
+}
+
+pub fn wait(d: Driver, n: u64, anchor: ReadAnchor, spare: u64) -> Reply
+    ensures { λ r. ⌜ Replies r (wait d n anchor spare) ⌝ }
+{
+    let waiters = d.waiters;
+    if n < 16 {
+        wait_as(d, waiter_at(waiters, n), n, anchor, spare)
+    } else {
+        Reply {
+            driver: d,
+            answer: Answer::WaiterOutOfRange,
+        }
+    }
+}
+
+pub(crate) fn resume_as(d: Driver, waiter: Waiter, n: u64, spare: u64) -> Reply
+    ensures { λ r. ⌜ r ≡ resumeAs d waiter n spare ⌝ }
+{
+    match waiter {
+        Waiter::Free => Reply {
+            driver: d,
+            answer: Answer::WaiterFree,
+        },
+        Waiter::Parked => Reply {
+            driver: d,
+            answer: Answer::Parked,
+        },
+        Waiter::Abandoned(anchor) => {
+            let view = d.life.lookup(anchor, spare);
+            viewed_by(d, n, view, abandoned_view(view, spare))
+        }
+        Waiter::Ended(anchor) => join(d, n, anchor, spare),
+    }
+}
+
+pub fn resume(d: Driver, n: u64, spare: u64) -> Reply
+    ensures { λ r. ⌜ Replies r (resume d n spare) ⌝ }
+{
+    let waiters = d.waiters;
+    if n < 16 {
+        resume_as(d, waiter_at(waiters, n), n, spare)
+    } else {
+        Reply {
+            driver: d,
+            answer: Answer::WaiterOutOfRange,
+        }
+    }
+}
