@@ -2,7 +2,7 @@
 ghost use mathlib.Core.Path.{_≡_};
 ghost use Rattle.head_driver.specs.Answers.{Replies};
 ghost use Rattle.head_step.specs.Calls.{new, completion, link, report, stats, heads};
-ghost use Rattle.head_step.specs.Inputs.{inputRefusal};
+ghost use Rattle.head_step.specs.Inputs.{inputNumber, inputRefusal};
 ghost use Rattle.head_step.specs.Steps.{step};
 ghost use Rattle.head_step.specs.Dispatch.{listRefusal, waiterRefusal, dispatch};
 use hash::Hash;
@@ -112,6 +112,19 @@ pub fn heads(d: Driver) -> Reply
     Reply {
         driver: d,
         answer: Answer::Heads(current.anchor(), installed.anchor(), previous.anchor()),
+    }
+}
+
+impl InputRefusal {
+    // The refusal's number, or 0 where the input is taken.
+    pub fn number(self) -> u64
+        ensures { λ r. ⌜ r ≡ inputNumber self ⌝ }
+    {
+        match self {
+            InputRefusal::Nothing => 0,
+            InputRefusal::ListAtOdds => 2,
+            InputRefusal::WaiterOutOfRange => 3,
+        }
     }
 }
 

@@ -1,4 +1,10 @@
+use Rattle.head_driver.proofs.Replied.{replied}
+use Rattle.head_step.specs.Calls.{completion}
 use Rattle.head_step.proofs.head_lifecycle.completion.Statement.{statement}
+use Rattle.head_step.proofs.head_lifecycle.completion.Tie as tie
 
 pub completion-spec : {M : Type 1} → statement M
-completion-spec = ?
+unfolding completion
+completion-spec = tie.close (tie.spec
+    (λ c κs. tt)
+    (λ c. replied (rw (← c .completion .ensures))))

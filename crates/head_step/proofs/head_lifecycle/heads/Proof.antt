@@ -1,4 +1,12 @@
+use Rattle.head_driver.proofs.Replied.{replied}
+use Rattle.head_step.specs.Calls.{heads}
 use Rattle.head_step.proofs.head_lifecycle.heads.Statement.{statement}
+use Rattle.head_step.proofs.head_lifecycle.heads.Tie as tie
 
 pub heads-spec : {M : Type 1} → statement M
-heads-spec = ?
+unfolding heads
+heads-spec = tie.close (tie.spec
+    (λ c κs. tt)
+    (λ c κs. tt)
+    (λ c κs. tt)
+    (λ c. replied (rw (← c .before .before .anchor .ensures, ← c .before .anchor2 .ensures, ← c .anchor3 .ensures))))

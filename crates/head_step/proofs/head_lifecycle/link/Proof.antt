@@ -1,4 +1,10 @@
+use Rattle.head_driver.proofs.Replied.{replied}
+use Rattle.head_step.specs.Calls.{link}
 use Rattle.head_step.proofs.head_lifecycle.link.Statement.{statement}
+use Rattle.head_step.proofs.head_lifecycle.link.Tie as tie
 
 pub link-spec : {M : Type 1} → statement M
-link-spec = ?
+unfolding link
+link-spec = tie.close (tie.spec
+    (λ c κs. tt)
+    (λ c. replied (rw (← c .classify-link .ensures))))

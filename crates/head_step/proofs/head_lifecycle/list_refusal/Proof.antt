@@ -1,4 +1,10 @@
+use Rattle.head_step.specs.Dispatch.{listRefusal}
 use Rattle.head_step.proofs.head_lifecycle.list_refusal.Statement.{statement}
+use Rattle.head_step.proofs.head_lifecycle.list_refusal.Tie as tie
 
 pub list-refusal-spec : {M : Type 1} → statement M
-list-refusal-spec = ?
+unfolding listRefusal
+list-refusal-spec = tie.close (tie.spec
+    (λ c κs. tt)
+    (λ c. rw (← c .before .as-prepared .ensures, c .if1 .taken))
+    (λ c. rw (← c .before .as-prepared .ensures, c .if1 .left)))

@@ -1,4 +1,10 @@
+use Rattle.head_driver.proofs.Replied.{replied}
+use Rattle.head_step.specs.Calls.{report}
 use Rattle.head_step.proofs.head_lifecycle.report.Statement.{statement}
+use Rattle.head_step.proofs.head_lifecycle.report.Tie as tie
 
 pub report-spec : {M : Type 1} → statement M
-report-spec = ?
+unfolding report
+report-spec = tie.close (tie.spec
+    (λ c κs. tt)
+    (λ c. replied (rw (← c .report .ensures))))

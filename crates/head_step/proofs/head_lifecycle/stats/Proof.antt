@@ -1,4 +1,10 @@
+use Rattle.head_driver.proofs.Replied.{replied}
+use mathlib.Core.Path.{refl}
+use Rattle.head_step.specs.Calls.{stats}
 use Rattle.head_step.proofs.head_lifecycle.stats.Statement.{statement}
+use Rattle.head_step.proofs.head_lifecycle.stats.Tie as tie
 
 pub stats-spec : {M : Type 1} → statement M
-stats-spec = ?
+unfolding stats
+stats-spec = tie.close (tie.spec
+    (λ c. replied (refl)))

@@ -1,4 +1,10 @@
+use borrow.Author.Tests.{lt-ltb, le-ltb}
+use Rattle.head_step.specs.Dispatch.{waiterRefusal}
 use Rattle.head_step.proofs.head_lifecycle.waiter_refusal.Statement.{statement}
+use Rattle.head_step.proofs.head_lifecycle.waiter_refusal.Tie as tie
 
 pub waiter-refusal-spec : {M : Type 1} → statement M
-waiter-refusal-spec = ?
+unfolding waiterRefusal
+waiter-refusal-spec = tie.close (tie.spec
+    (λ c. rw (lt-ltb _ _ (c .if1 .taken)))
+    (λ c. rw (le-ltb _ _ (c .if1 .left))))
