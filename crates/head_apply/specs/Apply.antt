@@ -17,4 +17,3 @@ apply d ticket list handle carried report =
     if (asPrepared list)
     (applyAs d (list .skip) handle carried report (planApply (d .life) ticket (list .anchor)))
     (replyOf d Answer.ListAtOdds)
-

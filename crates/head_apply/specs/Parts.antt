@@ -24,4 +24,3 @@ applyAs d skip handle carried report (ApplyPlan.Refused o) = replyOf d (Answer.O
 applyAs d skip handle carried report (ApplyPlan.Discarded o) = replyOf (withLife d (counted (d .life) Counter.Discarded)) (Answer.Outcome o)
 applyAs d skip handle carried report (ApplyPlan.Admitted held) =
     settleAs d (held .anchor) (applyPrepared (slotAnchor (d .life .installed)) (held .anchor) (held .«parent_hash») skip carried) handle report
-

@@ -1,6 +1,8 @@
 // From head_lifecycle.rs: `BalHeadDriver::apply_members`.
 ghost use mathlib.Core.Path.{_≡_};
 ghost use Rattle.head_driver.specs.Answers.{Replies};
+ghost use Rattle.head_driver.specs.Parts.{replyOf, withLife};
+ghost use Rattle.head_life.specs.State.{counted};
 ghost use Rattle.head_apply.specs.Parts.{settleAs, applyAs};
 ghost use Rattle.head_apply.specs.Apply.{apply};
 use head_anchor::bal_prefetch::BalSkip;
@@ -11,11 +13,13 @@ use head_anchor::read_hub::as_prepared;
 use head_anchor::storage_memo::ReadAnchor;
 use head_count::head_lifecycle::Counter;
 use head_count::head_lifecycle::HeadCompletion;
+use head_current::head_lifecycle::HeadDelivery;
 use head_current::head_lifecycle::HeadTicket;
-use head_current::head_lifecycle::wake_current;
 use head_driver::head_lifecycle::Answer;
 use head_driver::head_lifecycle::Driver;
 use head_driver::head_lifecycle::Reply;
+use head_driver::head_lifecycle::answered;
+use head_driver::head_lifecycle::ending;
 use head_driver::head_lifecycle::with_life;
 use head_life::head_lifecycle::ApplyPlan;
 use head_life::head_lifecycle::HeadOutcome;
@@ -29,18 +33,46 @@ pub(crate) fn settle_as(
 ) -> Reply
     ensures { λ r. ⌜ r ≡ settleAs d anchor outcome handle report ⌝ }
 {
+    answered(
+        ending(
+            d,
+            d.life.settle(anchor, outcome, handle, report),
+            HeadCompletion::Settled,
+        ),
+        Answer::Outcome(HeadOutcome::Settled(outcome)),
+    )
+}
+
+// The refusals 11 and 12 are counted.
+pub(crate) fn discard(d: Driver, outcome: HeadOutcome) -> Reply
+    ensures { λ r. ⌜ r ≡ replyOf (withLife d (counted (d .life) Counter.Discarded)) (Answer.Outcome outcome) ⌝ }
+{
+    answered(
+        with_life(d, d.life.count(Counter::Discarded)),
+        Answer::Outcome(outcome),
+    )
+}
+
+pub(crate) fn admit(
+    d: Driver,
+    held: HeadDelivery,
+    skip: BalSkip,
+    handle: u64,
+    carried: u64,
+    report: u64,
+) -> Reply
+    ensures { λ r. ⌜ r ≡ applyAs d skip handle carried report (ApplyPlan.Admitted held) ⌝ }
+{
     let life = d.life;
-    let current = life.current;
-    let waiters = d.waiters;
-    let next = life.settle(anchor, outcome, handle, report);
-    let woken = wake_current(HeadCompletion::Settled, current, waiters);
-    Reply {
-        driver: Driver {
-            life: next,
-            waiters: woken,
-        },
-        answer: Answer::Outcome(HeadOutcome::Settled(outcome)),
-    }
+    let installed = life.installed;
+    let outcome = apply_prepared(
+        installed.anchor(),
+        held.anchor,
+        held.parent_hash,
+        skip,
+        carried,
+    );
+    settle_as(d, held.anchor, outcome, handle, report)
 }
 
 pub(crate) fn apply_as(
@@ -54,29 +86,9 @@ pub(crate) fn apply_as(
     ensures { λ r. ⌜ r ≡ applyAs d skip handle carried report plan ⌝ }
 {
     match plan {
-        ApplyPlan::Refused(outcome) => Reply {
-            driver: d,
-            answer: Answer::Outcome(outcome),
-        },
-        ApplyPlan::Discarded(outcome) => {
-            let next = d.life.count(Counter::Discarded);
-            Reply {
-                driver: with_life(d, next),
-                answer: Answer::Outcome(outcome),
-            }
-        }
-        ApplyPlan::Admitted(held) => {
-            let life = d.life;
-            let installed = life.installed;
-            let outcome = apply_prepared(
-                installed.anchor(),
-                held.anchor,
-                held.parent_hash,
-                skip,
-                carried,
-            );
-            settle_as(d, held.anchor, outcome, handle, report)
-        }
+        ApplyPlan::Refused(outcome) => answered(d, Answer::Outcome(outcome)),
+        ApplyPlan::Discarded(outcome) => discard(d, outcome),
+        ApplyPlan::Admitted(held) => admit(d, held, skip, handle, carried, report),
     }
 }
 
@@ -102,9 +114,6 @@ pub fn apply(
             d.life.plan_apply(ticket, list.anchor),
         )
     } else {
-        Reply {
-            driver: d,
-            answer: Answer::ListAtOdds,
-        }
+        answered(d, Answer::ListAtOdds)
     }
 }

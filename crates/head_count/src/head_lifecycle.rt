@@ -86,10 +86,10 @@ impl Epoch {
         Epoch(raised(self.0))
     }
 
-    pub fn same(self, other: Epoch) -> bool
-        ensures { λ r. ⌜ r ≡ sameEpoch self other ⌝ }
+    pub fn same(self, named: Epoch) -> bool
+        ensures { λ r. ⌜ r ≡ sameEpoch self named ⌝ }
     {
-        self.0 == other.0
+        self.0 == named.0
     }
 }
 

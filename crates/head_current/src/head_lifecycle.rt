@@ -1,7 +1,8 @@
 // From head_lifecycle.rs: `HeadTicket`, `PrepareClaim`, `HeadDelivery`, `UnsettledHead`, `SettledHead`, `CurrentHead`.
 ghost use mathlib.Core.Path.{_≡_};
+ghost use Rattle.head_count.specs.Attempts.{publish};
 ghost use Rattle.head_current.specs.Heads.{sameDelivery, redelivery, repeats, ticketOf, delivery, anchorOf, published, unsettled, preparingAt, lastReport};
-ghost use Rattle.head_current.specs.Moves.{claimedHead, owns, ownedBy, releasedHead, abandonment, settlingEpoch, settledHead, wakeCurrent};
+ghost use Rattle.head_current.specs.Moves.{settledOf, claimedHead, owns, ownedBy, releasedHead, abandonment, settlingEpoch, settledHead, wakeCurrent};
 use hash::Hash;
 use hash::both;
 use hash::same_hash;
@@ -76,7 +77,10 @@ impl HeadDelivery {
     pub(crate) fn same(self, anchor: ReadAnchor, parent_hash: Hash) -> bool
         ensures { λ r. ⌜ r ≡ sameDelivery self anchor «parent_hash» ⌝ }
     {
-        both(same_anchor(self.anchor, anchor), same_hash(self.parent_hash, parent_hash))
+        both(
+            same_anchor(self.anchor, anchor),
+            same_hash(self.parent_hash, parent_hash),
+        )
     }
 
     pub(crate) fn repeated_by(self, anchor: ReadAnchor, parent_hash: Hash) -> Redelivery
@@ -95,7 +99,10 @@ impl HeadDelivery {
         ensures { λ r. ⌜ r ≡ ticketOf self ticket ⌝ }
     {
         let seq = self.seq;
-        both(same_anchor(self.anchor, ticket.anchor), seq.same(ticket.seq))
+        both(
+            same_anchor(self.anchor, ticket.anchor),
+            seq.same(ticket.seq),
+        )
     }
 }
 
@@ -123,6 +130,56 @@ impl UnsettledHead {
             HeadCompletion::Abandoned => true,
         }
     }
+
+    pub(crate) fn claimed(self, epoch: Epoch) -> CurrentHead
+        ensures { λ r. ⌜ r ≡ claimedHead (CurrentHead.Unclaimed self) epoch ⌝ }
+    {
+        let attempt = ClaimAttempt::minted(epoch);
+        CurrentHead::Preparing(UnsettledHead { attempt, ..self })
+    }
+
+    pub(crate) fn released(self) -> CurrentHead
+        ensures { λ r. ⌜ r ≡ releasedHead (CurrentHead.Preparing self) ⌝ }
+    {
+        let old = self.attempt;
+        let attempt = old.publish(HeadCompletion::Abandoned);
+        CurrentHead::Unclaimed(UnsettledHead { attempt, ..self })
+    }
+
+    pub(crate) fn settled(self, epoch: Epoch, report: LastReport) -> CurrentHead
+        ensures { λ r. ⌜ r ≡ settledHead (CurrentHead.Unclaimed self) epoch report ⌝ }
+    {
+        if self.abandoned() {
+            settle_with(self.delivery, report, ClaimAttempt::settled(epoch))
+        } else {
+            settle_open(self.delivery, report, self.attempt)
+        }
+    }
+}
+
+pub(crate) fn settle_with(
+    delivery: HeadDelivery,
+    report: LastReport,
+    attempt: ClaimAttempt,
+) -> CurrentHead
+    ensures { λ r. ⌜ r ≡ CurrentHead.Settled (settledOf delivery report attempt) ⌝ }
+{
+    CurrentHead::Settled(SettledHead {
+        delivery,
+        report,
+        attempt,
+    })
+}
+
+// The attempt ends settled, if it has not ended.
+pub(crate) fn settle_open(
+    delivery: HeadDelivery,
+    report: LastReport,
+    attempt: ClaimAttempt,
+) -> CurrentHead
+    ensures { λ r. ⌜ r ≡ CurrentHead.Settled (settledOf delivery report (publish attempt HeadCompletion.Settled)) ⌝ }
+{
+    settle_with(delivery, report, attempt.publish(HeadCompletion::Settled))
 }
 
 impl CurrentHead {
@@ -227,10 +284,7 @@ impl CurrentHead {
     {
         match self {
             CurrentHead::Absent => self,
-            CurrentHead::Unclaimed(u) => {
-                let attempt = ClaimAttempt::minted(epoch);
-                CurrentHead::Preparing(UnsettledHead { attempt, ..u })
-            }
+            CurrentHead::Unclaimed(u) => u.claimed(epoch),
             CurrentHead::Preparing(_) => self,
             CurrentHead::Settled(_) => self,
         }
@@ -254,11 +308,7 @@ impl CurrentHead {
         match self {
             CurrentHead::Absent => self,
             CurrentHead::Unclaimed(_) => self,
-            CurrentHead::Preparing(u) => {
-                let old = u.attempt;
-                let attempt = old.publish(HeadCompletion::Abandoned);
-                CurrentHead::Unclaimed(UnsettledHead { attempt, ..u })
-            }
+            CurrentHead::Preparing(u) => u.released(),
             CurrentHead::Settled(_) => self,
         }
     }
@@ -281,44 +331,9 @@ impl CurrentHead {
     {
         match self {
             CurrentHead::Absent => self,
-            CurrentHead::Unclaimed(u) => {
-                let delivery = u.delivery;
-                let old = u.attempt;
-                if u.abandoned() {
-                    let attempt = ClaimAttempt::settled(epoch);
-                    CurrentHead::Settled(SettledHead {
-                        delivery,
-                        report,
-                        attempt,
-                    })
-                } else {
-                    let attempt = old.publish(HeadCompletion::Settled);
-                    CurrentHead::Settled(SettledHead {
-                        delivery,
-                        report,
-                        attempt,
-                    })
-                }
-            }
-            CurrentHead::Preparing(u) => {
-                let delivery = u.delivery;
-                let old = u.attempt;
-                let attempt = old.publish(HeadCompletion::Settled);
-                CurrentHead::Settled(SettledHead {
-                    delivery,
-                    report,
-                    attempt,
-                })
-            }
-            CurrentHead::Settled(s) => {
-                let old = s.attempt;
-                let attempt = old.publish(HeadCompletion::Settled);
-                CurrentHead::Settled(SettledHead {
-                    report,
-                    attempt,
-                    ..s
-                })
-            }
+            CurrentHead::Unclaimed(u) => u.settled(epoch, report),
+            CurrentHead::Preparing(u) => settle_open(u.delivery, report, u.attempt),
+            CurrentHead::Settled(s) => settle_open(s.delivery, report, s.attempt),
         }
     }
 }

@@ -2,7 +2,9 @@
 ghost use mathlib.Core.Path.{_≡_};
 ghost use Rattle.head_driver.specs.Answers.{Replies, outcomeSaid, said};
 ghost use Rattle.head_driver.specs.Calls.{deliver, claim, release, snapshot};
-ghost use Rattle.head_driver.specs.Parts.{withLife, deliverAs, claimAs, viewed};
+ghost use Rattle.head_driver.specs.Parts.{replyOf, withLife, endingWith, deliverAs, claimAs, viewed};
+ghost use Rattle.head_life.specs.Claim.{released};
+ghost use Rattle.head_life.specs.State.{counted};
 use hash::Hash;
 use head_anchor::read_hub::Link;
 use head_anchor::storage_memo::AnchorSlot;
@@ -88,6 +90,12 @@ impl Answer {
     }
 }
 
+pub fn answered(d: Driver, answer: Answer) -> Reply
+    ensures { λ r. ⌜ r ≡ replyOf d answer ⌝ }
+{
+    Reply { driver: d, answer }
+}
+
 pub fn with_life(d: Driver, life: HeadLifecycle) -> Driver
     ensures { λ r. ⌜ r ≡ withLife d life ⌝ }
 {
@@ -96,39 +104,42 @@ pub fn with_life(d: Driver, life: HeadLifecycle) -> Driver
     next
 }
 
-pub(crate) fn deliver_as(
-    d: Driver,
-    anchor: ReadAnchor,
-    parent_hash: Hash,
-    cold: u64,
-    redelivery: Redelivery,
-) -> Reply
-    ensures { λ r. ⌜ r ≡ deliverAs d anchor «parent_hash» cold redelivery ⌝ }
+// The next lifecycle, with the current preparation, if there is one, ended so.
+pub fn ending(d: Driver, next: HeadLifecycle, end: HeadCompletion) -> Driver
+    ensures { λ r. ⌜ r ≡ endingWith d next end ⌝ }
 {
     let life = d.life;
-    match redelivery {
-        Redelivery::New => {
-            let current = life.current;
-            let waiters = d.waiters;
-            let next = life.deliver(anchor, parent_hash, cold);
-            let woken = wake_current(HeadCompletion::Superseded, current, waiters);
-            let seq = life.seq.next();
-            Reply {
-                driver: Driver {
-                    life: next,
-                    waiters: woken,
-                },
-                answer: Answer::Ticket(seq),
-            }
-        }
-        Redelivery::Of(seq) => {
-            let next = life.count(Counter::Repeated);
-            Reply {
-                driver: with_life(d, next),
-                answer: Answer::Ticket(seq),
-            }
-        }
+    let current = life.current;
+    let old = d.waiters;
+    let waiters = wake_current(end, current, old);
+    Driver {
+        life: next,
+        waiters,
     }
+}
+
+// A delivery that repeats the current head's.
+pub(crate) fn repeated(d: Driver, seq: Seq) -> Reply
+    ensures { λ r. ⌜ r ≡ replyOf (withLife d (counted (d .life) Counter.Repeated)) (Answer.Ticket seq) ⌝ }
+{
+    answered(
+        with_life(d, d.life.count(Counter::Repeated)),
+        Answer::Ticket(seq),
+    )
+}
+
+pub(crate) fn delivered(d: Driver, anchor: ReadAnchor, parent_hash: Hash, cold: u64) -> Reply
+    ensures { λ r. ⌜ r ≡ deliverAs d anchor «parent_hash» cold Redelivery.New ⌝ }
+{
+    let seq = d.life.seq.next();
+    answered(
+        ending(
+            d,
+            d.life.deliver(anchor, parent_hash, cold),
+            HeadCompletion::Superseded,
+        ),
+        Answer::Ticket(seq),
+    )
 }
 
 pub fn deliver(d: Driver, anchor: ReadAnchor, parent_hash: Hash, cold: u64) -> Reply
@@ -136,37 +147,34 @@ pub fn deliver(d: Driver, anchor: ReadAnchor, parent_hash: Hash, cold: u64) -> R
 {
     let life = d.life;
     let current = life.current;
-    deliver_as(
-        d,
-        anchor,
-        parent_hash,
-        cold,
-        current.repeated_by(anchor, parent_hash),
-    )
+    match current.repeated_by(anchor, parent_hash) {
+        Redelivery::New => delivered(d, anchor, parent_hash, cold),
+        Redelivery::Of(seq) => repeated(d, seq),
+    }
 }
 
-pub(crate) fn claim_as(d: Driver, start: ClaimStart) -> Reply
-    ensures { λ r. ⌜ r ≡ claimAs d start ⌝ }
+pub(crate) fn claimed(d: Driver, epoch: Epoch) -> Reply
+    ensures { λ r. ⌜ r ≡ claimAs d (ClaimStart.Claimed epoch) ⌝ }
 {
-    match start {
-        ClaimStart::Claimed(epoch) => {
-            let next = d.life.claimed(epoch);
-            Reply {
-                driver: with_life(d, next),
-                answer: Answer::Claimed(epoch),
-            }
-        }
-        ClaimStart::Refused(outcome) => Reply {
-            driver: d,
-            answer: Answer::Outcome(outcome),
-        },
-    }
+    answered(with_life(d, d.life.claimed(epoch)), Answer::Claimed(epoch))
 }
 
 pub fn claim(d: Driver, ticket: HeadTicket) -> Reply
     ensures { λ r. ⌜ Replies r (claim d ticket) ⌝ }
 {
-    claim_as(d, d.life.claim(ticket))
+    match d.life.claim(ticket) {
+        ClaimStart::Claimed(epoch) => claimed(d, epoch),
+        ClaimStart::Refused(outcome) => answered(d, Answer::Outcome(outcome)),
+    }
+}
+
+pub(crate) fn released(d: Driver) -> Reply
+    ensures { λ r. ⌜ r ≡ replyOf (endingWith d (released (d .life)) HeadCompletion.Abandoned) Answer.Done ⌝ }
+{
+    answered(
+        ending(d, d.life.release(), HeadCompletion::Abandoned),
+        Answer::Done,
+    )
 }
 
 pub fn release(d: Driver, claim: PrepareClaim) -> Reply
@@ -174,22 +182,10 @@ pub fn release(d: Driver, claim: PrepareClaim) -> Reply
 {
     let life = d.life;
     let current = life.current;
-    let waiters = d.waiters;
     if current.owned_by(claim) {
-        let next = life.release();
-        let woken = wake_current(HeadCompletion::Abandoned, current, waiters);
-        Reply {
-            driver: Driver {
-                life: next,
-                waiters: woken,
-            },
-            answer: Answer::Done,
-        }
+        released(d)
     } else {
-        Reply {
-            driver: d,
-            answer: Answer::Done,
-        }
+        answered(d, Answer::Done)
     }
 }
 
@@ -198,11 +194,10 @@ pub fn viewed(d: Driver, view: HeadView, shown: HeadView) -> Reply
     ensures { λ r. ⌜ r ≡ viewed d view shown ⌝ }
 {
     let readiness = view.readiness;
-    let next = d.life.record_view(readiness);
-    Reply {
-        driver: with_life(d, next),
-        answer: Answer::View(shown),
-    }
+    answered(
+        with_life(d, d.life.record_view(readiness)),
+        Answer::View(shown),
+    )
 }
 
 pub fn snapshot(d: Driver, anchor: ReadAnchor, spare: u64) -> Reply

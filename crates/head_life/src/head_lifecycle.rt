@@ -2,8 +2,8 @@
 ghost use mathlib.Core.Path.{_≡_};
 ghost use Rattle.head_life.specs.Generations.{settledReadiness, isReady};
 ghost use Rattle.head_life.specs.Deliver.{replaced, countReplaced, countDelivery, newHead, delivered};
-ghost use Rattle.head_life.specs.Claim.{claimGate, claimStart, claimed, released};
-ghost use Rattle.head_life.specs.Apply.{planHeld, planApply, settle};
+ghost use Rattle.head_life.specs.Claim.{claimGate, claimStartAt, claimStart, claimed, released};
+ghost use Rattle.head_life.specs.Apply.{planHeld, planAt, planApply, settle};
 ghost use Rattle.head_life.specs.Snapshot.{spareReason, spareView, generationView, provisionalView, currentView, view};
 ghost use Rattle.head_life.specs.State.{noHead, counted, viewCounted, endAt};
 use crate::delta_snapshot::Generation;
@@ -183,6 +183,40 @@ pub(crate) fn claim_gate(
     }
 }
 
+pub(crate) fn claim_start(
+    installed: AnchorSlot,
+    epoch: Epoch,
+    current: CurrentHead,
+    ticket: HeadTicket,
+) -> ClaimStart
+    ensures { λ r. ⌜ r ≡ claimStartAt installed epoch current ticket ⌝ }
+{
+    match current {
+        CurrentHead::Absent => {
+            let anchor = ticket.anchor;
+            ClaimStart::Refused(HeadOutcome::Superseded(anchor))
+        }
+        CurrentHead::Unclaimed(u) => claim_gate(
+            installed,
+            u.delivery,
+            ticket,
+            ClaimStart::Claimed(epoch.next()),
+        ),
+        CurrentHead::Preparing(u) => claim_gate(
+            installed,
+            u.delivery,
+            ticket,
+            ClaimStart::Refused(HeadOutcome::InFlight),
+        ),
+        CurrentHead::Settled(s) => claim_gate(
+            installed,
+            s.delivery,
+            ticket,
+            ClaimStart::Refused(HeadOutcome::AlreadySettled),
+        ),
+    }
+}
+
 pub(crate) fn plan_held(
     installed: AnchorSlot,
     held: HeadDelivery,
@@ -204,6 +238,23 @@ pub(crate) fn plan_held(
         }
     } else {
         ApplyPlan::Discarded(HeadOutcome::Superseded(anchor))
+    }
+}
+
+pub(crate) fn plan_at(
+    installed: AnchorSlot,
+    slot: DeliverySlot,
+    ticket: HeadTicket,
+    prepared: ReadAnchor,
+) -> ApplyPlan
+    ensures { λ r. ⌜ r ≡ planAt installed slot ticket prepared ⌝ }
+{
+    match slot {
+        DeliverySlot::Nothing => {
+            let anchor = ticket.anchor;
+            ApplyPlan::Discarded(HeadOutcome::Superseded(anchor))
+        }
+        DeliverySlot::Held(held) => plan_held(installed, held, ticket, prepared),
     }
 }
 
@@ -340,18 +391,8 @@ impl HeadLifecycle {
         ensures { λ r. ⌜ r ≡ claimStart self ticket ⌝ }
     {
         let current = self.current;
-        let slot = self.installed;
-        let installed = slot.anchor();
-        let epoch = self.claim_epoch.next();
-        match current {
-            CurrentHead::Absent => {
-                let anchor = ticket.anchor;
-                ClaimStart::Refused(HeadOutcome::Superseded(anchor))
-            }
-            CurrentHead::Unclaimed(u) => claim_gate(installed, u.delivery, ticket, ClaimStart::Claimed(epoch)),
-            CurrentHead::Preparing(u) => claim_gate(installed, u.delivery, ticket, ClaimStart::Refused(HeadOutcome::InFlight)),
-            CurrentHead::Settled(s) => claim_gate(installed, s.delivery, ticket, ClaimStart::Refused(HeadOutcome::AlreadySettled)),
-        }
+        let installed = self.installed;
+        claim_start(installed.anchor(), self.claim_epoch, current, ticket)
     }
 
     pub fn claimed(self, epoch: Epoch) -> HeadLifecycle
@@ -379,19 +420,18 @@ impl HeadLifecycle {
         ensures { λ r. ⌜ r ≡ planApply self ticket prepared ⌝ }
     {
         let current = self.current;
-        let slot = self.installed;
-        let installed = slot.anchor();
-        match current.delivery() {
-            DeliverySlot::Nothing => {
-                let anchor = ticket.anchor;
-                ApplyPlan::Discarded(HeadOutcome::Superseded(anchor))
-            }
-            DeliverySlot::Held(held) => plan_held(installed, held, ticket, prepared),
-        }
+        let installed = self.installed;
+        plan_at(installed.anchor(), current.delivery(), ticket, prepared)
     }
 
     // The Rust's `record_settle` and `settle_current`: an admitted apply at that anchor, with the host's numbers for its hub and its report.
-    pub fn settle(self, anchor: ReadAnchor, outcome: CarryOutcome, handle: u64, report: u64) -> HeadLifecycle
+    pub fn settle(
+        self,
+        anchor: ReadAnchor,
+        outcome: CarryOutcome,
+        handle: u64,
+        report: u64,
+    ) -> HeadLifecycle
         ensures { λ r. ⌜ r ≡ settle self anchor outcome handle report ⌝ }
     {
         let old = self.current;

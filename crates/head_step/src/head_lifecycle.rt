@@ -19,6 +19,7 @@ use head_current::head_lifecycle::PrepareClaim;
 use head_driver::head_lifecycle::Answer;
 use head_driver::head_lifecycle::Driver;
 use head_driver::head_lifecycle::Reply;
+use head_driver::head_lifecycle::answered;
 use head_driver::head_lifecycle::claim;
 use head_driver::head_lifecycle::deliver;
 use head_driver::head_lifecycle::release;
@@ -66,19 +67,13 @@ pub fn new() -> Driver
 pub fn completion(d: Driver, anchor: ReadAnchor) -> Reply
     ensures { λ r. ⌜ Replies r (completion d anchor) ⌝ }
 {
-    Reply {
-        driver: d,
-        answer: Answer::Completion(d.life.completion(anchor)),
-    }
+    answered(d, Answer::Completion(d.life.completion(anchor)))
 }
 
 pub fn link(d: Driver, parent: AnchorSlot, child: ReadAnchor, parent_hash: Hash) -> Reply
     ensures { λ r. ⌜ Replies r (link d parent child «parent_hash») ⌝ }
 {
-    Reply {
-        driver: d,
-        answer: Answer::Link(classify_link(parent, child, parent_hash)),
-    }
+    answered(d, Answer::Link(classify_link(parent, child, parent_hash)))
 }
 
 pub fn report(d: Driver) -> Reply
@@ -86,20 +81,14 @@ pub fn report(d: Driver) -> Reply
 {
     let life = d.life;
     let current = life.current;
-    Reply {
-        driver: d,
-        answer: Answer::Report(current.report()),
-    }
+    answered(d, Answer::Report(current.report()))
 }
 
 pub fn stats(d: Driver) -> Reply
     ensures { λ r. ⌜ Replies r (stats d) ⌝ }
 {
     let counted = d.life.stats;
-    Reply {
-        driver: d,
-        answer: Answer::Stats(counted),
-    }
+    answered(d, Answer::Stats(counted))
 }
 
 pub fn heads(d: Driver) -> Reply
@@ -109,10 +98,10 @@ pub fn heads(d: Driver) -> Reply
     let current = life.current;
     let installed = life.installed;
     let previous = life.previous;
-    Reply {
-        driver: d,
-        answer: Answer::Heads(current.anchor(), installed.anchor(), previous.anchor()),
-    }
+    answered(
+        d,
+        Answer::Heads(current.anchor(), installed.anchor(), previous.anchor()),
+    )
 }
 
 impl InputRefusal {
@@ -176,7 +165,14 @@ pub(crate) fn dispatch(d: Driver, call: Call) -> Reply
         Call::Deliver(anchor, parent_hash, cold) => deliver(d, anchor, parent_hash, cold),
         Call::Claim(ticket) => claim(d, ticket),
         Call::Release(owner) => release(d, owner),
-        Call::Apply(ticket, list, handle, carried, made) => apply(d, ticket, list, handle, carried, made),
+        Call::Apply(ticket, list, handle, carried, made) => apply(
+            d,
+            ticket,
+            list,
+            handle,
+            carried,
+            made,
+        ),
         Call::Snapshot(anchor, spare) => snapshot(d, anchor, spare),
         Call::Wait(n, anchor, spare) => wait(d, n, anchor, spare),
         Call::Resume(n, spare) => resume(d, n, spare),
@@ -193,13 +189,7 @@ pub fn step(d: Driver, call: Call) -> Reply
 {
     match input_refusal(call) {
         InputRefusal::Nothing => dispatch(d, call),
-        InputRefusal::ListAtOdds => Reply {
-            driver: d,
-            answer: Answer::ListAtOdds,
-        },
-        InputRefusal::WaiterOutOfRange => Reply {
-            driver: d,
-            answer: Answer::WaiterOutOfRange,
-        },
+        InputRefusal::ListAtOdds => answered(d, Answer::ListAtOdds),
+        InputRefusal::WaiterOutOfRange => answered(d, Answer::WaiterOutOfRange),
     }
 }

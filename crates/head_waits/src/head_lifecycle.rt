@@ -2,6 +2,7 @@
 ghost use mathlib.Core.Path.{_≡_};
 ghost use lib.ListN.{set};
 ghost use Rattle.head_driver.specs.Answers.{Replies};
+ghost use Rattle.head_driver.specs.Parts.{replyOf};
 ghost use Rattle.head_waits.specs.Parts.{unownedReason, unownedReadiness, unowned, abandonedView, waiterAt, put, viewedBy, join, waitAs, resumeAs};
 ghost use Rattle.head_waits.specs.Calls.{wait, resume};
 use head_anchor::storage_memo::ReadAnchor;
@@ -10,6 +11,8 @@ use head_count::head_lifecycle::WaiterSlot;
 use head_driver::head_lifecycle::Answer;
 use head_driver::head_lifecycle::Driver;
 use head_driver::head_lifecycle::Reply;
+use head_driver::head_lifecycle::answered;
+use head_driver::head_lifecycle::viewed;
 use head_life::head_lifecycle::HeadCold;
 use head_life::head_lifecycle::HeadReadiness;
 use head_life::head_lifecycle::HeadView;
@@ -106,13 +109,21 @@ pub(crate) fn waiter_at(waiters: [WaiterSlot; 16], n: u64) -> Waiter
 pub(crate) fn viewed_by(d: Driver, n: u64, view: HeadView, shown: HeadView) -> Reply
     ensures { λ r. ⌜ r ≡ viewedBy d n view shown ⌝ }
 {
-    let counted = head_driver::head_lifecycle::viewed(d, view, shown);
+    let counted = viewed(d, view, shown);
     let answer = counted.answer;
-    let next = counted.driver;
-    Reply {
-        driver: put(next, n, Waiter::Free),
-        answer,
-    }
+    answered(put(counted.driver, n, Waiter::Free), answer)
+}
+
+pub(crate) fn park(d: Driver, n: u64) -> Reply
+    ensures { λ r. ⌜ r ≡ replyOf (put d n Waiter.Parked) Answer.Parked ⌝ }
+{
+    answered(put(d, n, Waiter::Parked), Answer::Parked)
+}
+
+pub(crate) fn view_unowned(d: Driver, n: u64, view: HeadView) -> Reply
+    ensures { λ r. ⌜ r ≡ viewedBy d n view (unowned view) ⌝ }
+{
+    viewed_by(d, n, view, unowned(view))
 }
 
 // One turn of the Rust's loop: park on the live preparation at that anchor, or answer.
@@ -122,13 +133,9 @@ pub(crate) fn join(d: Driver, n: u64, anchor: ReadAnchor, spare: u64) -> Reply
     let life = d.life;
     let current = life.current;
     if current.preparing_at(anchor) {
-        Reply {
-            driver: put(d, n, Waiter::Parked),
-            answer: Answer::Parked,
-        }
+        park(d, n)
     } else {
-        let view = life.lookup(anchor, spare);
-        viewed_by(d, n, view, unowned(view))
+        view_unowned(d, n, d.life.lookup(anchor, spare))
     }
 }
 
@@ -137,18 +144,9 @@ pub(crate) fn wait_as(d: Driver, waiter: Waiter, n: u64, anchor: ReadAnchor, spa
 {
     match waiter {
         Waiter::Free => join(d, n, anchor, spare),
-        Waiter::Parked => Reply {
-            driver: d,
-            answer: Answer::WaiterTaken,
-        },
-        Waiter::Abandoned(_) => Reply {
-            driver: d,
-            answer: Answer::WaiterTaken,
-        },
-        Waiter::Ended(_) => Reply {
-            driver: d,
-            answer: Answer::WaiterTaken,
-        },
+        Waiter::Parked => answered(d, Answer::WaiterTaken),
+        Waiter::Abandoned(_) => answered(d, Answer::WaiterTaken),
+        Waiter::Ended(_) => answered(d, Answer::WaiterTaken),
     }
 }
 
@@ -159,29 +157,23 @@ pub fn wait(d: Driver, n: u64, anchor: ReadAnchor, spare: u64) -> Reply
     if n < 16 {
         wait_as(d, waiter_at(waiters, n), n, anchor, spare)
     } else {
-        Reply {
-            driver: d,
-            answer: Answer::WaiterOutOfRange,
-        }
+        answered(d, Answer::WaiterOutOfRange)
     }
+}
+
+pub(crate) fn view_abandoned(d: Driver, n: u64, view: HeadView, spare: u64) -> Reply
+    ensures { λ r. ⌜ r ≡ viewedBy d n view (abandonedView view spare) ⌝ }
+{
+    viewed_by(d, n, view, abandoned_view(view, spare))
 }
 
 pub(crate) fn resume_as(d: Driver, waiter: Waiter, n: u64, spare: u64) -> Reply
     ensures { λ r. ⌜ r ≡ resumeAs d waiter n spare ⌝ }
 {
     match waiter {
-        Waiter::Free => Reply {
-            driver: d,
-            answer: Answer::WaiterFree,
-        },
-        Waiter::Parked => Reply {
-            driver: d,
-            answer: Answer::Parked,
-        },
-        Waiter::Abandoned(anchor) => {
-            let view = d.life.lookup(anchor, spare);
-            viewed_by(d, n, view, abandoned_view(view, spare))
-        }
+        Waiter::Free => answered(d, Answer::WaiterFree),
+        Waiter::Parked => answered(d, Answer::Parked),
+        Waiter::Abandoned(anchor) => view_abandoned(d, n, d.life.lookup(anchor, spare), spare),
         Waiter::Ended(anchor) => join(d, n, anchor, spare),
     }
 }
@@ -193,9 +185,6 @@ pub fn resume(d: Driver, n: u64, spare: u64) -> Reply
     if n < 16 {
         resume_as(d, waiter_at(waiters, n), n, spare)
     } else {
-        Reply {
-            driver: d,
-            answer: Answer::WaiterOutOfRange,
-        }
+        answered(d, Answer::WaiterOutOfRange)
     }
 }

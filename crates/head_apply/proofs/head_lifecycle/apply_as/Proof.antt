@@ -6,13 +6,11 @@ pub apply-as-spec : {M : Type 1} → statement M
 unfolding applyAs
 apply-as-spec = tie.close (tie.spec
     (λ c. c .match .keys1)
-    (λ c. c .match .keys2)
     (λ c κs. tt)
+    (λ c. c .match .keys2)
     (λ c κs. tt)
     (λ c. c .match .keys3)
     (λ c κs. tt)
-    (λ c κs. tt)
-    (λ c κs. tt)
-    (λ c. rw (c .before .plan .given .1))
-    (λ c. rw (c .before .before .before .plan2 .given .1, ← c .before .count .ensures, ← c .with-life .ensures))
-    (λ c. rw (c .before .before .before .before .before .plan3 .given .1, ← c .before .before .anchor .ensures, ← c .before .apply-prepared .ensures, ← c .settle-as .ensures)))
+    (λ c. rw (c .before .before .plan .given .1, ← c .answered .ensures))
+    (λ c. rw (c .before .before .plan2 .given .1, ← c .discard .ensures))
+    (λ c. rw (c .before .before .plan3 .given .1, ← c .admit .ensures)))

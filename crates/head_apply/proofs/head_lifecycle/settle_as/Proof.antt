@@ -7,4 +7,5 @@ unfolding settleAs
 settle-as-spec = tie.close (tie.spec
     (λ c κs. tt)
     (λ c κs. tt)
-    (λ c. rw (← c .before .settle .ensures, ← c .wake-current .ensures)))
+    (λ c κs. tt)
+    (λ c. rw (← c .before .before .settle .ensures, ← c .before .ending .ensures, ← c .answered .ensures)))

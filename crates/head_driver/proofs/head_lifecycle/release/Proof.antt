@@ -9,5 +9,5 @@ release-spec = tie.close (tie.spec
     (λ c κs. tt)
     (λ c κs. tt)
     (λ c κs. tt)
-    (λ c. replied (rw (← c .before .before .before .owned-by .ensures, c .before .before .if1 .taken, ← c .before .release .ensures, ← c .wake-current .ensures)))
-    (λ c. replied (rw (← c .before .owned-by .ensures, c .if1 .left))))
+    (λ c. replied (rw (← c .before .before .owned-by .ensures, c .before .if1 .taken, ← c .released .ensures)))
+    (λ c. replied (rw (← c .before .before .owned-by .ensures, c .before .if1 .left, ← c .answered .ensures))))

@@ -7,4 +7,5 @@ unfolding viewed
 viewed-spec = tie.close (tie.spec
     (λ c κs. tt)
     (λ c κs. tt)
-    (λ c. rw (← c .before .record-view .ensures, ← c .with-life .ensures)))
+    (λ c κs. tt)
+    (λ c. rw (← c .before .before .record-view .ensures, ← c .before .with-life .ensures, ← c .answered .ensures)))

@@ -7,4 +7,5 @@ pub completion-spec : {M : Type 1} → statement M
 unfolding completion
 completion-spec = tie.close (tie.spec
     (λ c κs. tt)
-    (λ c. replied (rw (← c .completion .ensures))))
+    (λ c κs. tt)
+    (λ c. replied (rw (← c .before .completion .ensures, ← c .answered .ensures))))

@@ -9,4 +9,5 @@ heads-spec = tie.close (tie.spec
     (λ c κs. tt)
     (λ c κs. tt)
     (λ c κs. tt)
-    (λ c. replied (rw (← c .before .before .anchor .ensures, ← c .before .anchor2 .ensures, ← c .anchor3 .ensures))))
+    (λ c κs. tt)
+    (λ c. replied (rw (← c .before .before .before .anchor .ensures, ← c .before .before .anchor2 .ensures, ← c .before .anchor3 .ensures, ← c .answered .ensures))))

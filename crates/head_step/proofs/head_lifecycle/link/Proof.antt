@@ -7,4 +7,5 @@ pub link-spec : {M : Type 1} → statement M
 unfolding link
 link-spec = tie.close (tie.spec
     (λ c κs. tt)
-    (λ c. replied (rw (← c .classify-link .ensures))))
+    (λ c κs. tt)
+    (λ c. replied (rw (← c .before .classify-link .ensures, ← c .answered .ensures))))

@@ -7,4 +7,5 @@ pub report-spec : {M : Type 1} → statement M
 unfolding report
 report-spec = tie.close (tie.spec
     (λ c κs. tt)
-    (λ c. replied (rw (← c .report .ensures))))
+    (λ c κs. tt)
+    (λ c. replied (rw (← c .before .report .ensures, ← c .answered .ensures))))

@@ -1,5 +1,4 @@
 use Rattle.head_driver.proofs.Replied.{replied}
-use mathlib.Core.Path.{refl}
 use Rattle.head_step.specs.Calls.{stats}
 use Rattle.head_step.proofs.head_lifecycle.stats.Statement.{statement}
 use Rattle.head_step.proofs.head_lifecycle.stats.Tie as tie
@@ -7,4 +6,5 @@ use Rattle.head_step.proofs.head_lifecycle.stats.Tie as tie
 pub stats-spec : {M : Type 1} → statement M
 unfolding stats
 stats-spec = tie.close (tie.spec
-    (λ c. replied (refl)))
+    (λ c κs. tt)
+    (λ c. replied (rw (← c .answered .ensures))))

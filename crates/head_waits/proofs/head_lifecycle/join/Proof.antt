@@ -9,6 +9,5 @@ join-spec = tie.close (tie.spec
     (λ c κs. tt)
     (λ c κs. tt)
     (λ c κs. tt)
-    (λ c κs. tt)
-    (λ c. rw (← c .before .before .preparing-at .ensures, c .before .if1 .taken, ← c .put .ensures))
-    (λ c. rw (← c .before .before .before .before .preparing-at .ensures, c .before .before .before .if1 .left, ← c .before .before .lookup .ensures, ← c .before .unowned .ensures, ← c .viewed-by .ensures)))
+    (λ c. rw (← c .before .before .preparing-at .ensures, c .before .if1 .taken, ← c .park .ensures))
+    (λ c. rw (← c .before .before .before .preparing-at .ensures, c .before .before .if1 .left, ← c .before .lookup .ensures, ← c .view-unowned .ensures)))

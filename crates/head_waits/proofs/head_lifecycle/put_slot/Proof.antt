@@ -16,8 +16,8 @@ put-slot-spec = tie.close (tie.spec
     (λ c. search needs)
     (λ c. refl)
     (λ c.
-      let ws : List WaiterSlot = c .before .args .waiters in
-      let n : ℕ = c .before .args .n in
-      let long : length ws ≡ 16 = search needs in
-      let past : length ws ≤ n = omega arith in
-      sym (set-out ws n _ past)))
+    let ws : List WaiterSlot = c .before .args .waiters in
+    let n : ℕ = c .before .args .n in
+    let long : length ws ≡ 16 = search needs in
+    let past : length ws ≤ n = omega arith in
+    sym (set-out ws n _ past)))

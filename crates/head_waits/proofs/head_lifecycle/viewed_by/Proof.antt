@@ -7,4 +7,5 @@ unfolding viewedBy
 viewed-by-spec = tie.close (tie.spec
     (λ c κs. tt)
     (λ c κs. tt)
-    (λ c. rw (← c .before .before .viewed .ensures, ← c .put .ensures)))
+    (λ c κs. tt)
+    (λ c. rw (← c .before .before .viewed .ensures, ← c .before .put .ensures, ← c .answered .ensures)))

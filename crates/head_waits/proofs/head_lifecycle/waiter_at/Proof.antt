@@ -19,8 +19,8 @@ waiter-at-spec = tie.close (tie.spec
     (λ c. search needs)
     (λ c. refl)
     (λ c.
-      let ws : List WaiterSlot = c .before .args .t1 in
-      let n : ℕ = c .before .args .n in
-      let long : length ws ≡ 16 = search needs in
-      let past : length ws ≤ n = omega arith in
-      sym (ap (λ (s : WaiterSlot). s .waiter) (List·getD-eq-default ws (slotOf Waiter.Free) past))))
+    let ws : List WaiterSlot = c .before .args .t1 in
+    let n : ℕ = c .before .args .n in
+    let long : length ws ≡ 16 = search needs in
+    let past : length ws ≤ n = omega arith in
+    sym (ap (λ (s : WaiterSlot). s .waiter) (List·getD-eq-default ws (slotOf Waiter.Free) past))))

@@ -11,6 +11,6 @@ claimed-spec = tie.close (tie.spec
     (λ c. c .match .keys3)
     (λ c. c .match .keys4)
     (λ c. rw (c .enum-told .given .1))
-    (λ c. rw (c .before .before .before .self .given .1, ← c .before .minted .ensures))
+    (λ c. rw (c .before .before .self .given .1, ← c .claimed .ensures))
     (λ c. rw (c .enum-told2 .given .1))
     (λ c. rw (c .enum-told3 .given .1)))

@@ -12,5 +12,5 @@ released-spec = tie.close (tie.spec
     (λ c. c .match .keys4)
     (λ c. rw (c .enum-told .given .1))
     (λ c. rw (c .enum-told2 .given .1))
-    (λ c. rw (c .before .before .before .before .self .given .1, ← c .before .publish .ensures))
+    (λ c. rw (c .before .before .self .given .1, ← c .released .ensures))
     (λ c. rw (c .enum-told3 .given .1)))

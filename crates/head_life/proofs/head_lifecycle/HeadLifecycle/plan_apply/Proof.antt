@@ -7,8 +7,5 @@ unfolding planApply
 plan-apply-spec = tie.close (tie.spec
     (λ c κs. tt)
     (λ c κs. tt)
-    (λ c. c .match .keys1)
-    (λ c. c .match .keys2)
     (λ c κs. tt)
-    (λ c. rw (← c .before .before .before .before .anchor .ensures, ← c .before .before .before .delivery .ensures, c .before .enum-told .given .1))
-    (λ c. rw (← c .before .before .before .before .before .anchor .ensures, ← c .before .before .before .before .delivery .ensures, c .before .before .held .given .1, ← c .plan-held .ensures)))
+    (λ c. rw (← c .before .before .anchor .ensures, ← c .before .delivery .ensures, ← c .plan-at .ensures)))

@@ -1,0 +1,11 @@
+use Rattle.head_apply.specs.Parts.{applyAs}
+use Rattle.head_apply.proofs.head_lifecycle.admit.Statement.{statement}
+use Rattle.head_apply.proofs.head_lifecycle.admit.Tie as tie
+
+pub admit-spec : {M : Type 1} → statement M
+unfolding applyAs
+admit-spec = tie.close (tie.spec
+    (λ c κs. tt)
+    (λ c κs. tt)
+    (λ c κs. tt)
+    (λ c. rw (← c .before .before .anchor .ensures, ← c .before .apply-prepared .ensures, ← c .settle-as .ensures)))

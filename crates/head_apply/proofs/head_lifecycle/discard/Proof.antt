@@ -1,0 +1,9 @@
+use Rattle.head_apply.proofs.head_lifecycle.discard.Statement.{statement}
+use Rattle.head_apply.proofs.head_lifecycle.discard.Tie as tie
+
+pub discard-spec : {M : Type 1} → statement M
+discard-spec = tie.close (tie.spec
+    (λ c κs. tt)
+    (λ c κs. tt)
+    (λ c κs. tt)
+    (λ c. rw (← c .before .before .count .ensures, ← c .before .with-life .ensures, ← c .answered .ensures)))

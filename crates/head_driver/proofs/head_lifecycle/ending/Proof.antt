@@ -1,0 +1,7 @@
+use Rattle.head_driver.proofs.head_lifecycle.ending.Statement.{statement}
+use Rattle.head_driver.proofs.head_lifecycle.ending.Tie as tie
+
+pub ending-spec : {M : Type 1} → statement M
+ending-spec = tie.close (tie.spec
+    (λ c κs. tt)
+    (λ c. rw (← c .wake-current .ensures)))

@@ -1,0 +1,10 @@
+use Rattle.head_waits.specs.Parts.{viewedBy}
+use Rattle.head_waits.proofs.head_lifecycle.view_abandoned.Statement.{statement}
+use Rattle.head_waits.proofs.head_lifecycle.view_abandoned.Tie as tie
+
+pub view-abandoned-spec : {M : Type 1} → statement M
+unfolding viewedBy
+view-abandoned-spec = tie.close (tie.spec
+    (λ c κs. tt)
+    (λ c κs. tt)
+    (λ c. rw (← c .before .abandoned-view .ensures, ← c .viewed-by .ensures)))
