@@ -5,7 +5,7 @@ use Rattle.hash.specs.Logic.{if}
 use Rattle.head_current.specs.Heads.{delivery, repeats}
 use Rattle.head_current.specs.Moves.{ownedBy}
 use Rattle.head_life.specs.Claim.{claimStart, released}
-use Rattle.head_life.specs.Snapshot.{view}
+use Rattle.head_view.specs.Snapshot.{view}
 use Rattle.hash.specs.declared.Hash.{Hash}
 use Rattle.head_anchor.specs.declared.storage_memo.ReadAnchor.{ReadAnchor}
 use Rattle.head_count.specs.declared.head_lifecycle.HeadCompletion.{HeadCompletion}

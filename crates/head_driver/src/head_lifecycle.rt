@@ -24,6 +24,7 @@ use head_life::head_lifecycle::ClaimStart;
 use head_life::head_lifecycle::HeadLifecycle;
 use head_life::head_lifecycle::HeadOutcome;
 use head_life::head_lifecycle::HeadView;
+use head_view::head_lifecycle::lookup;
 
 pub struct Driver {
     pub life: HeadLifecycle,
@@ -203,6 +204,6 @@ pub fn viewed(d: Driver, view: HeadView, shown: HeadView) -> Reply
 pub fn snapshot(d: Driver, anchor: ReadAnchor, spare: u64) -> Reply
     ensures { λ r. ⌜ Replies r (snapshot d anchor spare) ⌝ }
 {
-    let view = d.life.lookup(anchor, spare);
+    let view = lookup(d.life, anchor, spare);
     viewed(d, view, view)
 }

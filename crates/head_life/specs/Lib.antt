@@ -5,4 +5,3 @@ pub mod State
 pub mod Deliver
 pub mod Claim
 pub mod Apply
-pub mod Snapshot

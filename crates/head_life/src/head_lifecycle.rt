@@ -4,7 +4,6 @@ ghost use Rattle.head_life.specs.Generations.{settledReadiness, isReady}
 ghost use Rattle.head_life.specs.Deliver.{replaced, countReplaced, countDelivery, newHead, delivered};
 ghost use Rattle.head_life.specs.Claim.{claimGate, claimStartAt, claimStart, claimed, released};
 ghost use Rattle.head_life.specs.Apply.{planHeld, planAt, planApply, settle};
-ghost use Rattle.head_life.specs.Snapshot.{spareReason, spareView, generationView, provisionalView, currentView, view};
 ghost use Rattle.head_life.specs.State.{noHead, counted, viewCounted, endAt};
 use crate::delta_snapshot::Generation;
 use crate::delta_snapshot::GenerationSlot;
@@ -258,79 +257,6 @@ pub(crate) fn plan_at(
     }
 }
 
-pub(crate) fn spare_reason(superseded: bool) -> HeadCold
-    ensures { λ r. ⌜ r ≡ spareReason superseded ⌝ }
-{
-    if superseded {
-        HeadCold::Superseded
-    } else {
-        HeadCold::Undelivered
-    }
-}
-
-pub(crate) fn spare_view(superseded: AnchorSlot, anchor: ReadAnchor, spare: u64) -> HeadView
-    ensures { λ r. ⌜ r ≡ spareView superseded anchor spare ⌝ }
-{
-    let reason = spare_reason(holds(superseded, anchor));
-    HeadView {
-        source: Source::Spare,
-        handle: spare,
-        readiness: HeadReadiness::Cold(reason),
-    }
-}
-
-// The generation's view if it is at that anchor, else `other`.
-pub(crate) fn generation_view(
-    source: Source,
-    slot: GenerationSlot,
-    anchor: ReadAnchor,
-    other: HeadView,
-) -> HeadView
-    ensures { λ r. ⌜ r ≡ generationView source slot anchor other ⌝ }
-{
-    match slot {
-        GenerationSlot::Nothing => other,
-        GenerationSlot::Held(g) => {
-            let readiness = g.readiness;
-            if same_anchor(g.anchor, anchor) {
-                HeadView {
-                    source,
-                    handle: g.handle,
-                    readiness,
-                }
-            } else {
-                other
-            }
-        }
-    }
-}
-
-pub(crate) fn provisional_view(head: UnsettledHead, anchor: ReadAnchor, other: HeadView) -> HeadView
-    ensures { λ r. ⌜ r ≡ provisionalView head anchor other ⌝ }
-{
-    if same_anchor(head.delivery.anchor, anchor) {
-        let readiness = HeadReadiness::Cold(HeadCold::Unprepared);
-        HeadView {
-            source: Source::Provisional,
-            handle: head.provisional,
-            readiness,
-        }
-    } else {
-        other
-    }
-}
-
-pub(crate) fn current_view(current: CurrentHead, anchor: ReadAnchor, other: HeadView) -> HeadView
-    ensures { λ r. ⌜ r ≡ currentView current anchor other ⌝ }
-{
-    match current {
-        CurrentHead::Absent => other,
-        CurrentHead::Unclaimed(u) => provisional_view(u, anchor, other),
-        CurrentHead::Preparing(u) => provisional_view(u, anchor, other),
-        CurrentHead::Settled(_) => other,
-    }
-}
-
 impl HeadLifecycle {
     pub fn new() -> HeadLifecycle
         ensures { λ r. ⌜ r ≡ noHead ⌝ }
@@ -454,20 +380,6 @@ impl HeadLifecycle {
             stats,
             ..self
         }
-    }
-
-    // What a snapshot at that anchor reads, first that fits. `spare` is the handle of a cold generation that the host made for this call.
-    pub fn lookup(self, anchor: ReadAnchor, spare: u64) -> HeadView
-        ensures { λ r. ⌜ r ≡ view self anchor spare ⌝ }
-    {
-        let superseded = self.superseded;
-        let previous = self.previous;
-        let current = self.current;
-        let installed = self.installed;
-        let fresh = spare_view(superseded, anchor, spare);
-        let older = generation_view(Source::Previous, previous, anchor, fresh);
-        let newer = current_view(current, anchor, older);
-        generation_view(Source::Installed, installed, anchor, newer)
     }
 
     pub fn completion(self, anchor: ReadAnchor) -> HeadCompletion

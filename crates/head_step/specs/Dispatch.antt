@@ -5,11 +5,11 @@ use Rattle.hash.specs.Logic.{if}
 use Rattle.head_anchor.specs.Lists.{asPrepared}
 use Rattle.head_apply.specs.Apply.{apply}
 use Rattle.head_driver.specs.Calls.{claim, deliver, release, snapshot}
+use Rattle.head_reads.specs.Calls.{completion, heads, link, report, stats}
 use Rattle.head_waits.specs.Calls.{resume, wait}
 use Rattle.head_anchor.specs.declared.read_hub.PreparedBal.{PreparedBal}
 use Rattle.head_driver.specs.declared.head_lifecycle.Driver.{Driver}
 use Rattle.head_driver.specs.declared.head_lifecycle.Reply.{Reply}
-use Rattle.head_step.specs.Calls.{completion, heads, link, report, stats}
 use Rattle.head_step.specs.declared.head_lifecycle.Call.{Call}
 use Rattle.head_step.specs.declared.head_lifecycle.InputRefusal.{InputRefusal}
 

@@ -1,19 +1,15 @@
-// From head_lifecycle.rs: `completion`, `last_report`, `stats`, `delivered`, `installed` and `previous` of `BalHeadDriver`; and `classify_link`, of read_hub.rs, as a call.
+// Every call on a driver, as a value and as one function. The Rust has a method for each.
 ghost use mathlib.Core.Path.{_≡_};
 ghost use Rattle.head_driver.specs.Answers.{Replies};
-ghost use Rattle.head_step.specs.Calls.{new, completion, link, report, stats, heads};
 ghost use Rattle.head_step.specs.Inputs.{inputNumber, inputRefusal};
 ghost use Rattle.head_step.specs.Steps.{step};
 ghost use Rattle.head_step.specs.Dispatch.{listRefusal, waiterRefusal, dispatch};
 use hash::Hash;
 use head_anchor::read_hub::PreparedBal;
 use head_anchor::read_hub::as_prepared;
-use head_anchor::read_hub::classify_link;
 use head_anchor::storage_memo::AnchorSlot;
 use head_anchor::storage_memo::ReadAnchor;
 use head_apply::head_lifecycle::apply;
-use head_count::head_lifecycle::Waiter;
-use head_count::head_lifecycle::WaiterSlot;
 use head_current::head_lifecycle::HeadTicket;
 use head_current::head_lifecycle::PrepareClaim;
 use head_driver::head_lifecycle::Answer;
@@ -24,7 +20,11 @@ use head_driver::head_lifecycle::claim;
 use head_driver::head_lifecycle::deliver;
 use head_driver::head_lifecycle::release;
 use head_driver::head_lifecycle::snapshot;
-use head_life::head_lifecycle::HeadLifecycle;
+use head_reads::head_lifecycle::completion;
+use head_reads::head_lifecycle::heads;
+use head_reads::head_lifecycle::link;
+use head_reads::head_lifecycle::report;
+use head_reads::head_lifecycle::stats;
 use head_waits::head_lifecycle::resume;
 use head_waits::head_lifecycle::wait;
 
@@ -49,59 +49,6 @@ pub enum InputRefusal {
     Nothing,
     ListAtOdds,
     WaiterOutOfRange,
-}
-
-pub fn new() -> Driver
-    ensures { λ r. ⌜ r ≡ new ⌝ }
-{
-    let slot = WaiterSlot {
-        waiter: Waiter::Free,
-    };
-    let life = HeadLifecycle::new();
-    Driver {
-        life,
-        waiters: [slot; 16],
-    }
-}
-
-pub fn completion(d: Driver, anchor: ReadAnchor) -> Reply
-    ensures { λ r. ⌜ Replies r (completion d anchor) ⌝ }
-{
-    answered(d, Answer::Completion(d.life.completion(anchor)))
-}
-
-pub fn link(d: Driver, parent: AnchorSlot, child: ReadAnchor, parent_hash: Hash) -> Reply
-    ensures { λ r. ⌜ Replies r (link d parent child «parent_hash») ⌝ }
-{
-    answered(d, Answer::Link(classify_link(parent, child, parent_hash)))
-}
-
-pub fn report(d: Driver) -> Reply
-    ensures { λ r. ⌜ Replies r (report d) ⌝ }
-{
-    let life = d.life;
-    let current = life.current;
-    answered(d, Answer::Report(current.report()))
-}
-
-pub fn stats(d: Driver) -> Reply
-    ensures { λ r. ⌜ Replies r (stats d) ⌝ }
-{
-    let counted = d.life.stats;
-    answered(d, Answer::Stats(counted))
-}
-
-pub fn heads(d: Driver) -> Reply
-    ensures { λ r. ⌜ Replies r (heads d) ⌝ }
-{
-    let life = d.life;
-    let current = life.current;
-    let installed = life.installed;
-    let previous = life.previous;
-    answered(
-        d,
-        Answer::Heads(current.anchor(), installed.anchor(), previous.anchor()),
-    )
 }
 
 impl InputRefusal {

@@ -1,3 +1,3 @@
-// Every call as a value, the calls that only read, and one function for all of them: step.
+// Every call as a value, which of them are turned away by their input, and one function for all of them: step.
 // Knows nothing of lines.
 pub mod head_lifecycle;

@@ -7,7 +7,7 @@ use Rattle.head_count.specs.Waiters.{slotOf}
 use Rattle.head_current.specs.Heads.{preparingAt}
 use Rattle.head_driver.specs.Parts.{replyOf, viewed}
 use Rattle.head_life.specs.Generations.{isReady}
-use Rattle.head_life.specs.Snapshot.{view, viewOf}
+use Rattle.head_view.specs.Snapshot.{view, viewOf}
 use Rattle.head_anchor.specs.declared.storage_memo.ReadAnchor.{ReadAnchor}
 use Rattle.head_count.specs.declared.head_lifecycle.Waiter.{Waiter}
 use Rattle.head_count.specs.declared.head_lifecycle.WaiterSlot.{WaiterSlot}

@@ -17,6 +17,7 @@ use head_life::head_lifecycle::HeadCold;
 use head_life::head_lifecycle::HeadReadiness;
 use head_life::head_lifecycle::HeadView;
 use head_life::head_lifecycle::Source;
+use head_view::head_lifecycle::lookup;
 
 pub(crate) fn unowned_reason(reason: HeadCold) -> HeadCold
     ensures { λ r. ⌜ r ≡ unownedReason reason ⌝ }
@@ -135,7 +136,7 @@ pub(crate) fn join(d: Driver, n: u64, anchor: ReadAnchor, spare: u64) -> Reply
     if current.preparing_at(anchor) {
         park(d, n)
     } else {
-        view_unowned(d, n, d.life.lookup(anchor, spare))
+        view_unowned(d, n, lookup(d.life, anchor, spare))
     }
 }
 
@@ -173,7 +174,7 @@ pub(crate) fn resume_as(d: Driver, waiter: Waiter, n: u64, spare: u64) -> Reply
     match waiter {
         Waiter::Free => answered(d, Answer::WaiterFree),
         Waiter::Parked => answered(d, Answer::Parked),
-        Waiter::Abandoned(anchor) => view_abandoned(d, n, d.life.lookup(anchor, spare), spare),
+        Waiter::Abandoned(anchor) => view_abandoned(d, n, lookup(d.life, anchor, spare), spare),
         Waiter::Ended(anchor) => join(d, n, anchor, spare),
     }
 }

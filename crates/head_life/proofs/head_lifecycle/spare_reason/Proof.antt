@@ -1,9 +1,0 @@
-use Rattle.head_life.specs.Snapshot.{spareReason}
-use Rattle.head_life.proofs.head_lifecycle.spare_reason.Statement.{statement}
-use Rattle.head_life.proofs.head_lifecycle.spare_reason.Tie as tie
-
-pub spare-reason-spec : {M : Type 1} → statement M
-unfolding spareReason
-spare-reason-spec = tie.close (tie.spec
-    (λ c. rw (c .if1 .taken))
-    (λ c. rw (c .if1 .left)))

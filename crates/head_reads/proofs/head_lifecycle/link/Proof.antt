@@ -1,0 +1,11 @@
+use Rattle.head_driver.proofs.Replied.{replied}
+use Rattle.head_reads.specs.Calls.{link}
+use Rattle.head_reads.proofs.head_lifecycle.link.Statement.{statement}
+use Rattle.head_reads.proofs.head_lifecycle.link.Tie as tie
+
+pub link-spec : {M : Type 1} → statement M
+unfolding link
+link-spec = tie.close (tie.spec
+    (λ c κs. tt)
+    (λ c κs. tt)
+    (λ c. replied (rw (← c .before .classify-link .ensures, ← c .answered .ensures))))

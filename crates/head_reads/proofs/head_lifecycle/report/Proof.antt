@@ -1,0 +1,11 @@
+use Rattle.head_driver.proofs.Replied.{replied}
+use Rattle.head_reads.specs.Calls.{report}
+use Rattle.head_reads.proofs.head_lifecycle.report.Statement.{statement}
+use Rattle.head_reads.proofs.head_lifecycle.report.Tie as tie
+
+pub report-spec : {M : Type 1} → statement M
+unfolding report
+report-spec = tie.close (tie.spec
+    (λ c κs. tt)
+    (λ c κs. tt)
+    (λ c. replied (rw (← c .before .report .ensures, ← c .answered .ensures))))

@@ -1,0 +1,12 @@
+use Rattle.head_view.specs.Snapshot.{view}
+use Rattle.head_view.proofs.head_lifecycle.lookup.Statement.{statement}
+use Rattle.head_view.proofs.head_lifecycle.lookup.Tie as tie
+
+pub lookup-spec : {M : Type 1} → statement M
+unfolding view
+lookup-spec = tie.close (tie.spec
+    (λ c κs. tt)
+    (λ c κs. tt)
+    (λ c κs. tt)
+    (λ c κs. tt)
+    (λ c. rw (← c .before .before .before .spare-view .ensures, ← c .before .before .generation-view .ensures, ← c .before .current-view .ensures, ← c .generation-view2 .ensures)))
