@@ -1,0 +1,8 @@
+use borrow.Author.Needs.{needs}
+use Rattle.hash_text.specs.LineHashes.{lineHashText}
+use Rattle.hash_text.proofs.put_hash.Statement.{statement}
+use Rattle.hash_text.proofs.put_hash.Tie as tie
+
+pub put-hash-spec : {M : Type 1} → statement M
+unfolding lineHashText
+put-hash-spec = tie.close (tie.spec (search needs) (search needs) (λ c. c .before .before .put-words .ensures))

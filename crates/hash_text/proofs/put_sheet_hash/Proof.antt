@@ -1,0 +1,8 @@
+use borrow.Author.Needs.{needs}
+use Rattle.hash_text.specs.SheetHashes.{sheetHashText}
+use Rattle.hash_text.proofs.put_sheet_hash.Statement.{statement}
+use Rattle.hash_text.proofs.put_sheet_hash.Tie as tie
+
+pub put-sheet-hash-spec : {M : Type 1} → statement M
+unfolding sheetHashText
+put-sheet-hash-spec = tie.close (tie.spec (search needs) (search needs) (λ c. c .before .before .put-words .ensures))

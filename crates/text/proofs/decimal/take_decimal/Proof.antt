@@ -1,0 +1,10 @@
+use borrow.Author.Needs.{needs}
+use Rattle.text.proofs.Places.{number-got, number-bad}
+use Rattle.text.proofs.decimal.take_decimal.Statement.{statement}
+use Rattle.text.proofs.decimal.take_decimal.Tie as tie
+
+pub take-decimal-spec : {M : Type 1} → statement M
+take-decimal-spec = tie.close (tie.spec
+    (search needs) (search needs) (search needs) (search needs) (search needs)
+    (λ c. search number-got)
+    (λ c. search number-bad))

@@ -1,0 +1,10 @@
+use borrow.Author.Needs.{needs}
+use Rattle.text.proofs.Places.{end-stopped, end-here}
+use Rattle.text.proofs.place.at_end.Statement.{statement}
+use Rattle.text.proofs.place.at_end.Tie as tie
+
+pub at-end-spec : {M : Type 1} → statement M
+at-end-spec = tie.close (tie.spec
+    (search needs) (search needs)
+    (λ c. search end-stopped)
+    (λ c. search end-here))

@@ -1,0 +1,15 @@
+use borrow.Author.Needs.{needs}
+use Rattle.text.proofs.Places.{past-stopped, past-none, past-end, past-short, past-on}
+use Rattle.text.proofs.place.past.Statement.{statement}
+use Rattle.text.proofs.place.past.Tie as tie
+
+pub past-spec : {M : Type 1} → statement M
+past-spec = tie.close (tie.spec
+    (search needs) (search needs)
+    (λ c. search past-stopped)
+    (λ c. search past-none)
+    (λ c. search (past-end, c .before .if1 .left))
+    (search needs)
+    (λ c. search past-short)
+    (search needs)
+    (λ c. search past-on))

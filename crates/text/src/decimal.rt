@@ -1,0 +1,115 @@
+// Numbers as decimal text.
+ghost use Prim.Native.Nat.{_+_, _≤_};
+ghost use mathlib.Core.Path.{_≡_};
+ghost use lib.ListN.{length};
+ghost use Rattle.text.specs.Decimals.{decimal, digit, more, number};
+ghost use Rattle.text.specs.Rests.{readNumber};
+ghost use Rattle.text.specs.Places.{here, Reads};
+ghost use Rattle.text.specs.Writes.{Wrote};
+use crate::place::Place;
+use crate::place::past;
+use crate::place::word_from;
+use crate::put::put;
+
+// What a word of digits says.
+pub enum Number {
+    Value(u64),
+    Bad,
+}
+
+// A number and the place after it; 0 where reading has stopped.
+pub struct NumberFrom {
+    pub value: u64,
+    pub next: Place,
+}
+
+pub(crate) fn first_digit(b: u8) -> Number
+    ensures { λ r. ⌜ r ≡ digit b ⌝ }
+{
+    if b < b'0' {
+        return Number::Bad;
+    }
+    if b > b'9' {
+        return Number::Bad;
+    }
+    Number::Value((b - b'0') as u64)
+}
+
+// The number with a digit after it. The tests come before the sum, which is then below 2^64.
+pub(crate) fn one_more(n: u64, b: u8) -> Number
+    ensures { λ r. ⌜ r ≡ more (Number.Value n) b ⌝ }
+{
+    if b < b'0' {
+        return Number::Bad;
+    }
+    if b > b'9' {
+        return Number::Bad;
+    }
+    if n == 0 {
+        return Number::Bad;
+    }
+    if n > 1844674407370955161 {
+        return Number::Bad;
+    }
+    let d = (b - b'0') as u64;
+    if d > 18446744073709551615 - n * 10 {
+        return Number::Bad;
+    }
+    Number::Value(n * 10 + d)
+}
+
+pub(crate) fn read_decimal(word: &[u8]) -> Number
+    ensures { λ r. ⌜ r ≡ number (now (word .entry)) ⌝ }
+{
+    if word.len() == 0 {
+        return Number::Bad;
+    }
+    let Number::Value(first) = first_digit(word[0]) else {
+        return Number::Bad;
+    };
+    let mut n = first;
+    let mut i = 1;
+    while i < word.len() {
+        let Number::Value(m) = one_more(n, word[i]) else {
+            return Number::Bad;
+        };
+        n = m;
+        i += 1;
+    }
+    Number::Value(n)
+}
+
+// The number of the word at a place, and the place after the word.
+pub fn take_decimal(line: &[u8], from: Place) -> NumberFrom
+    ensures { λ r. ⌜ Reads (now (line .entry)) (r .value) (r .next) (readNumber (here (now (line .entry)) from)) ⌝ }
+{
+    let word = word_from(line, from);
+    match read_decimal(word) {
+        Number::Value(n) => NumberFrom {
+            value: n,
+            next: past(line, from, word.len()),
+        },
+        Number::Bad => NumberFrom {
+            value: 0,
+            next: Place::Stopped,
+        },
+    }
+}
+
+// Puts a number. Its digits come last first, so they are laid out beside the buffer.
+pub fn put_decimal(buf: &mut [u8], at: usize, n: u64) -> usize
+    requires { ⌜ at + 20 ≤ length (now buf) ⌝ }
+    ensures { λ r. ⌜ Wrote (now (buf .entry)) (now (buf .exit)) at r (decimal n) ⌝ }
+    ensures { λ r. ⌜ r ≤ at + 20 ⌝ }
+{
+    let mut digits = [0u8; 20];
+    let mut i = 19;
+    let mut rest = n;
+    while rest >= 10 {
+        digits[i] = b'0' + (rest % 10) as u8;
+        rest = rest / 10;
+        i -= 1;
+    }
+    digits[i] = b'0' + rest as u8;
+    put(buf, at, &digits[i..])
+}
