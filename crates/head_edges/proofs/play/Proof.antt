@@ -1,0 +1,11 @@
+use borrow.Author.Needs.{needs}
+use Rattle.head_edges.proofs.play.Statement.{statement}
+use Rattle.head_edges.proofs.play.Tie as tie
+
+pub play-spec : {M : Type 1} → statement M
+play-spec = tie.close (tie.spec
+    (λ c κs. tt)
+    (λ c κs. tt)
+    (λ c. search needs)
+    (λ c κs. tt)
+    (λ c. rw (← c .before .before .before .before .step .ensures .exact)))

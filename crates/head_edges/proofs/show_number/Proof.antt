@@ -1,0 +1,11 @@
+use mathlib.Core.Path.{refl}
+use borrow.Author.Needs.{needs}
+use Rattle.head_edges.proofs.show_number.Statement.{statement}
+use Rattle.head_edges.proofs.show_number.Tie as tie
+
+pub show-number-spec : {M : Type 1} → statement M
+show-number-spec = tie.close (tie.spec
+    (λ c. search needs)
+    (λ c κs. tt)
+    (λ c κs. tt)
+    (λ c. refl))

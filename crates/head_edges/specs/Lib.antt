@@ -1,0 +1,2 @@
+-- What the printing functions answer.
+pub mod Shown
