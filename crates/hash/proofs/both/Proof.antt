@@ -1,3 +1,4 @@
+-- `hash::both` meets its contract: on each way through its code the result is what the definition gives.
 use Rattle.hash.proofs.both.Statement.{statement}
 use Rattle.hash.proofs.both.Tie as tie
 

@@ -1,3 +1,4 @@
+-- `hash::same_hash` meets its contract: on each way through its code the result is what the definition gives.
 use Rattle.hash.specs.Hashes.{sameHash}
 use Rattle.hash.proofs.same_hash.Statement.{statement}
 use Rattle.hash.proofs.same_hash.Tie as tie

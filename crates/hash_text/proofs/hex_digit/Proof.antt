@@ -1,3 +1,4 @@
+-- `hash_text::hex_digit` meets its contract: on each way through its code the result is what the definition gives.
 use borrow.Author.Needs.{needs}
 use borrow.Author.Tests.{lt-ltb, le-ltb}
 use Rattle.hash_text.specs.Hex.{glyph}

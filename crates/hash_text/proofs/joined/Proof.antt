@@ -1,3 +1,4 @@
+-- `hash_text::joined` meets its contract: on each way through its code the result is what the definition gives.
 use borrow.Author.Needs.{needs}
 use Rattle.hash_text.specs.Hex.{joined}
 use Rattle.hash_text.proofs.joined.Statement.{statement}

@@ -1,3 +1,4 @@
+-- `hash_text::one_more_hex` meets its contract: on each way through its code the result is what the definition gives.
 use native.Mathlib.Omega.{arith}
 use borrow.Author.Needs.{needs}
 use Rattle.hash_text.proofs.HexRead.{more-none, more-over, more-value, digit-small}

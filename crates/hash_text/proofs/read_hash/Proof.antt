@@ -1,3 +1,4 @@
+-- `hash_text::read_hash` meets its contract: on each way through its code the result is what the definition gives.
 use borrow.Author.Needs.{needs}
 use Rattle.hash_text.specs.LineHashes.{lineHash}
 use Rattle.hash_text.proofs.HexRead.{hash-short, hash-long}

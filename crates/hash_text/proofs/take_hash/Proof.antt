@@ -1,3 +1,4 @@
+-- `hash_text::take_hash` meets its contract: on each way through its code the result is what the definition gives.
 use borrow.Author.Needs.{needs}
 use Rattle.hash_text.proofs.Places.{hash-got, hash-bad}
 use Rattle.hash_text.proofs.take_hash.Statement.{statement}

@@ -1,3 +1,4 @@
+-- `head_edges::known` meets its contract: on each way through its code the result is what the definition gives.
 use Rattle.head_edges.proofs.known.Statement.{statement}
 use Rattle.head_edges.proofs.known.Tie as tie
 

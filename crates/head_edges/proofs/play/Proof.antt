@@ -1,3 +1,4 @@
+-- `head_edges::play` meets its contract: on each way through its code the result is what the definition gives.
 use borrow.Author.Needs.{needs}
 use Rattle.head_edges.proofs.play.Statement.{statement}
 use Rattle.head_edges.proofs.play.Tie as tie

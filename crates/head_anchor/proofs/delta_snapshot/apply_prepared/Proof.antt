@@ -1,3 +1,4 @@
+-- `head_anchor::delta_snapshot::apply_prepared` meets its contract: on each way through its code the result is what the definition gives.
 use Rattle.head_anchor.specs.Lists.{applyPrepared}
 use Rattle.head_anchor.proofs.delta_snapshot.apply_prepared.Statement.{statement}
 use Rattle.head_anchor.proofs.delta_snapshot.apply_prepared.Tie as tie

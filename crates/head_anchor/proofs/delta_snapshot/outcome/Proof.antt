@@ -1,3 +1,4 @@
+-- `head_anchor::delta_snapshot::outcome` meets its contract: on each way through its code the result is what the definition gives.
 use Rattle.head_anchor.specs.Lists.{outcome}
 use Rattle.head_anchor.proofs.delta_snapshot.outcome.Statement.{statement}
 use Rattle.head_anchor.proofs.delta_snapshot.outcome.Tie as tie

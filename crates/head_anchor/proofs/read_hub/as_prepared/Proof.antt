@@ -1,3 +1,4 @@
+-- `head_anchor::read_hub::as_prepared` meets its contract: on each way through its code the result is what the definition gives.
 use Rattle.head_anchor.specs.Lists.{asPrepared}
 use Rattle.head_anchor.proofs.read_hub.as_prepared.Statement.{statement}
 use Rattle.head_anchor.proofs.read_hub.as_prepared.Tie as tie

@@ -1,3 +1,4 @@
+-- `head_anchor::read_hub::classify_link` meets its contract: on each way through its code the result is what the definition gives.
 use Rattle.head_anchor.specs.Links.{classifyLink}
 use Rattle.head_anchor.proofs.read_hub.classify_link.Statement.{statement}
 use Rattle.head_anchor.proofs.read_hub.classify_link.Tie as tie

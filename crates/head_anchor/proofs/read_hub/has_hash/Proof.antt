@@ -1,3 +1,4 @@
+-- `head_anchor::read_hub::has_hash` meets its contract: on each way through its code the result is what the definition gives.
 use Rattle.head_anchor.specs.Lists.{hasHash}
 use Rattle.head_anchor.proofs.read_hub.has_hash.Statement.{statement}
 use Rattle.head_anchor.proofs.read_hub.has_hash.Tie as tie

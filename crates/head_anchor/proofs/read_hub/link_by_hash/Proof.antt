@@ -1,3 +1,4 @@
+-- `head_anchor::read_hub::link_by_hash` meets its contract: on each way through its code the result is what the definition gives.
 use Rattle.head_anchor.specs.Links.{linkByHash}
 use Rattle.head_anchor.proofs.read_hub.link_by_hash.Statement.{statement}
 use Rattle.head_anchor.proofs.read_hub.link_by_hash.Tie as tie

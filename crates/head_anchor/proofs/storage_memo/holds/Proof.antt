@@ -1,3 +1,4 @@
+-- `head_anchor::storage_memo::holds` meets its contract: on each way through its code the result is what the definition gives.
 use Rattle.head_anchor.specs.Anchors.{holds}
 use Rattle.head_anchor.proofs.storage_memo.holds.Statement.{statement}
 use Rattle.head_anchor.proofs.storage_memo.holds.Tie as tie

@@ -1,3 +1,4 @@
+-- `head_anchor::storage_memo::same_block_hash` meets its contract: on each way through its code the result is what the definition gives.
 use Rattle.head_anchor.specs.Anchors.{sameBlockHash}
 use Rattle.head_anchor.proofs.storage_memo.same_block_hash.Statement.{statement}
 use Rattle.head_anchor.proofs.storage_memo.same_block_hash.Tie as tie

@@ -1,3 +1,4 @@
+-- `head_apply::head_lifecycle::apply` meets its contract: on each way through its code the result is what the definition gives.
 use Rattle.head_driver.proofs.Replied.{replied}
 use Rattle.head_apply.specs.Apply.{apply}
 use Rattle.head_apply.proofs.head_lifecycle.apply.Statement.{statement}

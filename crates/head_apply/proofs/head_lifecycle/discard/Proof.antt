@@ -1,3 +1,4 @@
+-- `head_apply::head_lifecycle::discard` meets its contract: on each way through its code the result is what the definition gives.
 use Rattle.head_apply.proofs.head_lifecycle.discard.Statement.{statement}
 use Rattle.head_apply.proofs.head_lifecycle.discard.Tie as tie
 

@@ -1,3 +1,4 @@
+-- `head_count::head_lifecycle::first_end` meets its contract: on each way through its code the result is what the definition gives.
 use Rattle.head_count.specs.Attempts.{firstEnd}
 use Rattle.head_count.proofs.head_lifecycle.first_end.Statement.{statement}
 use Rattle.head_count.proofs.head_lifecycle.first_end.Tie as tie

@@ -1,3 +1,4 @@
+-- `head_count::head_lifecycle::raised` meets its contract: on each way through its code the result is what the definition gives.
 use borrow.Author.Needs.{needs}
 use borrow.Author.Tests.{lt-ltb, le-ltb}
 use Rattle.head_count.specs.Counters.{up}

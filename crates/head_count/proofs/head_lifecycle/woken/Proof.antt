@@ -1,3 +1,4 @@
+-- `head_count::head_lifecycle::woken` meets its contract: on each way through its code the result is what the definition gives.
 use Rattle.head_count.specs.Waiters.{woken}
 use Rattle.head_count.proofs.head_lifecycle.woken.Statement.{statement}
 use Rattle.head_count.proofs.head_lifecycle.woken.Tie as tie

@@ -1,3 +1,4 @@
+-- `head_current::head_lifecycle::wake_current` meets its contract: on each way through its code the result is what the definition gives.
 use Rattle.head_current.specs.Moves.{wakeCurrent}
 use Rattle.head_current.proofs.head_lifecycle.wake_current.Statement.{statement}
 use Rattle.head_current.proofs.head_lifecycle.wake_current.Tie as tie

@@ -1,3 +1,4 @@
+-- `head_driver::head_lifecycle::ending` meets its contract: on each way through its code the result is what the definition gives.
 use Rattle.head_driver.proofs.head_lifecycle.ending.Statement.{statement}
 use Rattle.head_driver.proofs.head_lifecycle.ending.Tie as tie
 

@@ -1,3 +1,4 @@
+-- `head_driver::head_lifecycle::outcome_number` meets its contract: on each way through its code the result is what the definition gives.
 use Rattle.head_driver.specs.Answers.{outcomeSaid}
 use Rattle.head_driver.proofs.head_lifecycle.outcome_number.Statement.{statement}
 use Rattle.head_driver.proofs.head_lifecycle.outcome_number.Tie as tie

@@ -1,3 +1,4 @@
+-- `head_driver::head_lifecycle::released` meets its contract: on each way through its code the result is what the definition gives.
 use Rattle.head_driver.proofs.head_lifecycle.released.Statement.{statement}
 use Rattle.head_driver.proofs.head_lifecycle.released.Tie as tie
 

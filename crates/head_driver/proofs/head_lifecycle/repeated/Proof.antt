@@ -1,3 +1,4 @@
+-- `head_driver::head_lifecycle::repeated` meets its contract: on each way through its code the result is what the definition gives.
 use Rattle.head_driver.proofs.head_lifecycle.repeated.Statement.{statement}
 use Rattle.head_driver.proofs.head_lifecycle.repeated.Tie as tie
 

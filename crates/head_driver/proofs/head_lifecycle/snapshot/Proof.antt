@@ -1,3 +1,4 @@
+-- `head_driver::head_lifecycle::snapshot` meets its contract: on each way through its code the result is what the definition gives.
 use Rattle.head_driver.proofs.Replied.{replied}
 use Rattle.head_driver.specs.Calls.{snapshot}
 use Rattle.head_driver.proofs.head_lifecycle.snapshot.Statement.{statement}

@@ -1,3 +1,4 @@
+-- `head_driver::head_lifecycle::with_life` meets its contract: on each way through its code the result is what the definition gives.
 use mathlib.Core.Path.{refl}
 use Rattle.head_driver.specs.Parts.{withLife}
 use Rattle.head_driver.proofs.head_lifecycle.with_life.Statement.{statement}

@@ -1,3 +1,4 @@
+-- `head_life::head_lifecycle::claim_gate` meets its contract: on each way through its code the result is what the definition gives.
 use Rattle.head_life.specs.Claim.{claimGate}
 use Rattle.head_life.proofs.head_lifecycle.claim_gate.Statement.{statement}
 use Rattle.head_life.proofs.head_lifecycle.claim_gate.Tie as tie

@@ -1,3 +1,4 @@
+-- `head_life::head_lifecycle::claim_start` meets its contract: on each way through its code the result is what the definition gives.
 use Rattle.head_life.proofs.head_lifecycle.claim_start.Statement.{statement}
 use Rattle.head_life.proofs.head_lifecycle.claim_start.Tie as tie
 

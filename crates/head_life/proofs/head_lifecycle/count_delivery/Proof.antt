@@ -1,3 +1,4 @@
+-- `head_life::head_lifecycle::count_delivery` meets its contract: on each way through its code the result is what the definition gives.
 use Rattle.head_life.specs.Deliver.{countDelivery}
 use Rattle.head_life.proofs.head_lifecycle.count_delivery.Statement.{statement}
 use Rattle.head_life.proofs.head_lifecycle.count_delivery.Tie as tie

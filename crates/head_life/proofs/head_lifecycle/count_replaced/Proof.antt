@@ -1,3 +1,4 @@
+-- `head_life::head_lifecycle::count_replaced` meets its contract: on each way through its code the result is what the definition gives.
 use Rattle.head_life.specs.Deliver.{countReplaced}
 use Rattle.head_life.proofs.head_lifecycle.count_replaced.Statement.{statement}
 use Rattle.head_life.proofs.head_lifecycle.count_replaced.Tie as tie

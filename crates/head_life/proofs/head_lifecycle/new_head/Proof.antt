@@ -1,3 +1,4 @@
+-- `head_life::head_lifecycle::new_head` meets its contract: on each way through its code the result is what the definition gives.
 use Rattle.head_life.specs.Deliver.{newHead}
 use Rattle.head_life.proofs.head_lifecycle.new_head.Statement.{statement}
 use Rattle.head_life.proofs.head_lifecycle.new_head.Tie as tie

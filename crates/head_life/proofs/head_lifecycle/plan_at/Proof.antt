@@ -1,3 +1,4 @@
+-- `head_life::head_lifecycle::plan_at` meets its contract: on each way through its code the result is what the definition gives.
 use Rattle.head_life.proofs.head_lifecycle.plan_at.Statement.{statement}
 use Rattle.head_life.proofs.head_lifecycle.plan_at.Tie as tie
 

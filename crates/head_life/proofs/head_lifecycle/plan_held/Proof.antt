@@ -1,3 +1,4 @@
+-- `head_life::head_lifecycle::plan_held` meets its contract: on each way through its code the result is what the definition gives.
 use Rattle.head_life.specs.Apply.{planHeld}
 use Rattle.head_life.proofs.head_lifecycle.plan_held.Statement.{statement}
 use Rattle.head_life.proofs.head_lifecycle.plan_held.Tie as tie

@@ -1,3 +1,4 @@
+-- `head_life::head_lifecycle::replaced` meets its contract: on each way through its code the result is what the definition gives.
 use Rattle.head_life.specs.Deliver.{replaced}
 use Rattle.head_life.proofs.head_lifecycle.replaced.Statement.{statement}
 use Rattle.head_life.proofs.head_lifecycle.replaced.Tie as tie

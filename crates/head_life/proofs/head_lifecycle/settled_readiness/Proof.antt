@@ -1,3 +1,4 @@
+-- `head_life::head_lifecycle::settled_readiness` meets its contract: on each way through its code the result is what the definition gives.
 use Rattle.head_life.specs.Generations.{settledReadiness}
 use Rattle.head_life.proofs.head_lifecycle.settled_readiness.Statement.{statement}
 use Rattle.head_life.proofs.head_lifecycle.settled_readiness.Tie as tie

@@ -1,3 +1,4 @@
+-- `head_reads::head_lifecycle::new` meets its contract: on each way through its code the result is what the definition gives.
 use Rattle.head_reads.specs.Calls.{new}
 use Rattle.head_reads.proofs.head_lifecycle.new.Statement.{statement}
 use Rattle.head_reads.proofs.head_lifecycle.new.Tie as tie

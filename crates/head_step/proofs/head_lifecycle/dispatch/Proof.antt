@@ -1,3 +1,4 @@
+-- `head_step::head_lifecycle::dispatch` meets its contract: on each way through its code the result is what the definition gives.
 use Rattle.head_step.specs.Dispatch.{dispatch}
 use Rattle.head_step.proofs.head_lifecycle.dispatch.Statement.{statement}
 use Rattle.head_step.proofs.head_lifecycle.dispatch.Tie as tie

@@ -1,3 +1,4 @@
+-- `head_step::head_lifecycle::input_refusal` meets its contract: on each way through its code the result is what the definition gives.
 use Rattle.head_step.specs.Inputs.{inputRefusal}
 use Rattle.head_step.proofs.head_lifecycle.input_refusal.Statement.{statement}
 use Rattle.head_step.proofs.head_lifecycle.input_refusal.Tie as tie

@@ -1,3 +1,4 @@
+-- `head_step::head_lifecycle::list_refusal` meets its contract: on each way through its code the result is what the definition gives.
 use Rattle.head_step.specs.Dispatch.{listRefusal}
 use Rattle.head_step.proofs.head_lifecycle.list_refusal.Statement.{statement}
 use Rattle.head_step.proofs.head_lifecycle.list_refusal.Tie as tie

@@ -1,3 +1,4 @@
+-- `head_step::head_lifecycle::step` meets its contract: on each way through its code the result is what the definition gives.
 use Rattle.head_driver.proofs.Replied.{replied}
 use Rattle.head_step.specs.Steps.{step}
 use Rattle.head_step.proofs.head_lifecycle.step.Statement.{statement}

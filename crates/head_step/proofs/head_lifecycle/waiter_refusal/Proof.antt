@@ -1,3 +1,4 @@
+-- `head_step::head_lifecycle::waiter_refusal` meets its contract: on each way through its code the result is what the definition gives.
 use borrow.Author.Tests.{lt-ltb, le-ltb}
 use Rattle.head_step.specs.Dispatch.{waiterRefusal}
 use Rattle.head_step.proofs.head_lifecycle.waiter_refusal.Statement.{statement}

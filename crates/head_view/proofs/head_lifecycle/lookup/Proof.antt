@@ -1,3 +1,4 @@
+-- `head_view::head_lifecycle::lookup` meets its contract: on each way through its code the result is what the definition gives.
 use Rattle.head_view.specs.Snapshot.{view}
 use Rattle.head_view.proofs.head_lifecycle.lookup.Statement.{statement}
 use Rattle.head_view.proofs.head_lifecycle.lookup.Tie as tie

@@ -1,3 +1,4 @@
+-- `head_view::head_lifecycle::spare_view` meets its contract: on each way through its code the result is what the definition gives.
 use Rattle.head_view.specs.Snapshot.{spareView}
 use Rattle.head_view.proofs.head_lifecycle.spare_view.Statement.{statement}
 use Rattle.head_view.proofs.head_lifecycle.spare_view.Tie as tie

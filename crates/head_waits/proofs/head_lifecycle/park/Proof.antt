@@ -1,3 +1,4 @@
+-- `head_waits::head_lifecycle::park` meets its contract: on each way through its code the result is what the definition gives.
 use Rattle.head_waits.proofs.head_lifecycle.park.Statement.{statement}
 use Rattle.head_waits.proofs.head_lifecycle.park.Tie as tie
 

@@ -1,3 +1,4 @@
+-- `head_waits::head_lifecycle::resume_as` meets its contract: on each way through its code the result is what the definition gives.
 use Rattle.head_waits.specs.Parts.{resumeAs}
 use Rattle.head_waits.proofs.head_lifecycle.resume_as.Statement.{statement}
 use Rattle.head_waits.proofs.head_lifecycle.resume_as.Tie as tie

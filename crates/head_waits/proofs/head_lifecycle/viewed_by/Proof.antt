@@ -1,3 +1,4 @@
+-- `head_waits::head_lifecycle::viewed_by` meets its contract: on each way through its code the result is what the definition gives.
 use Rattle.head_waits.specs.Parts.{viewedBy}
 use Rattle.head_waits.proofs.head_lifecycle.viewed_by.Statement.{statement}
 use Rattle.head_waits.proofs.head_lifecycle.viewed_by.Tie as tie

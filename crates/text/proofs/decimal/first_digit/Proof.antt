@@ -1,3 +1,4 @@
+-- `text::decimal::first_digit` meets its contract: on each way through its code the result is what the definition gives.
 use borrow.Author.Needs.{needs}
 use borrow.Author.Tests.{le-leb, lt-leb}
 use Rattle.text.specs.Decimals.{digit}

@@ -1,3 +1,4 @@
+-- `text::decimal::one_more` meets its contract: on each way through its code the result is what the definition gives.
 use native.Mathlib.Omega.{arith}
 use mathlib.Core.Path.{sym}
 use borrow.Author.Needs.{needs}

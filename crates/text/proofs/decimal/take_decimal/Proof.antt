@@ -1,3 +1,4 @@
+-- `text::decimal::take_decimal` meets its contract: on each way through its code the result is what the definition gives.
 use borrow.Author.Needs.{needs}
 use Rattle.text.proofs.Places.{number-got, number-bad}
 use Rattle.text.proofs.decimal.take_decimal.Statement.{statement}

@@ -1,3 +1,4 @@
+-- `text::place::past` meets its contract: on each way through its code the result is what the definition gives.
 use borrow.Author.Needs.{needs}
 use Rattle.text.proofs.Places.{past-stopped, past-none, past-end, past-short, past-on}
 use Rattle.text.proofs.place.past.Statement.{statement}

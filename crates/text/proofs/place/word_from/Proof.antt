@@ -1,3 +1,4 @@
+-- `text::place::word_from` meets its contract: on each way through its code the result is what the definition gives.
 use borrow.Author.Needs.{needs}
 use Rattle.text.proofs.Places.{word-none, word-some}
 use Rattle.text.proofs.place.word_from.Statement.{statement}

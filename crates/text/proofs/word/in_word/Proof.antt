@@ -1,3 +1,4 @@
+-- `text::word::in_word` meets its contract: on each way through its code the result is what the definition gives.
 use borrow.Author.Tests.{eq-eqb, ne-eqb}
 use Rattle.text.specs.Words.{inWord}
 use Rattle.text.proofs.word.in_word.Statement.{statement}

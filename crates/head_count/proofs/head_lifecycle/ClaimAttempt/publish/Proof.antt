@@ -1,3 +1,4 @@
+-- `head_count::head_lifecycle::ClaimAttempt::publish` meets its contract: on each way through its code the result is what the definition gives.
 use Rattle.head_count.specs.Attempts.{publish}
 use Rattle.head_count.proofs.head_lifecycle.ClaimAttempt.publish.Statement.{statement}
 use Rattle.head_count.proofs.head_lifecycle.ClaimAttempt.publish.Tie as tie

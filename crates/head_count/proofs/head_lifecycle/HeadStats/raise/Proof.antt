@@ -1,3 +1,4 @@
+-- `head_count::head_lifecycle::HeadStats::raise` meets its contract: on each way through its code the result is what the definition gives.
 use Rattle.head_count.specs.Counters.{raise}
 use Rattle.head_count.proofs.head_lifecycle.HeadStats.raise.Statement.{statement}
 use Rattle.head_count.proofs.head_lifecycle.HeadStats.raise.Tie as tie

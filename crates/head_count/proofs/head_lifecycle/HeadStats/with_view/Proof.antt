@@ -1,3 +1,4 @@
+-- `head_count::head_lifecycle::HeadStats::with_view` meets its contract: on each way through its code the result is what the definition gives.
 use Rattle.head_count.specs.Counters.{recordView}
 use Rattle.head_count.proofs.head_lifecycle.HeadStats.with_view.Statement.{statement}
 use Rattle.head_count.proofs.head_lifecycle.HeadStats.with_view.Tie as tie

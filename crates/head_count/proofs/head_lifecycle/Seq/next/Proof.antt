@@ -1,3 +1,4 @@
+-- `head_count::head_lifecycle::Seq::next` meets its contract: on each way through its code the result is what the definition gives.
 use Rattle.head_count.specs.Counters.{nextSeq}
 use Rattle.head_count.proofs.head_lifecycle.Seq.next.Statement.{statement}
 use Rattle.head_count.proofs.head_lifecycle.Seq.next.Tie as tie

@@ -1,3 +1,4 @@
+-- `head_current::head_lifecycle::CurrentHead::delivery` meets its contract: on each way through its code the result is what the definition gives.
 use Rattle.head_current.specs.Heads.{delivery}
 use Rattle.head_current.proofs.head_lifecycle.CurrentHead.delivery.Statement.{statement}
 use Rattle.head_current.proofs.head_lifecycle.CurrentHead.delivery.Tie as tie

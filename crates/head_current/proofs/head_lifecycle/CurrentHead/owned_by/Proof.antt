@@ -1,3 +1,4 @@
+-- `head_current::head_lifecycle::CurrentHead::owned_by` meets its contract: on each way through its code the result is what the definition gives.
 use Rattle.head_current.specs.Moves.{ownedBy}
 use Rattle.head_current.proofs.head_lifecycle.CurrentHead.owned_by.Statement.{statement}
 use Rattle.head_current.proofs.head_lifecycle.CurrentHead.owned_by.Tie as tie

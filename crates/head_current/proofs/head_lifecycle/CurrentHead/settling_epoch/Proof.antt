@@ -1,3 +1,4 @@
+-- `head_current::head_lifecycle::CurrentHead::settling_epoch` meets its contract: on each way through its code the result is what the definition gives.
 use Rattle.head_current.specs.Moves.{settlingEpoch}
 use Rattle.head_current.proofs.head_lifecycle.CurrentHead.settling_epoch.Statement.{statement}
 use Rattle.head_current.proofs.head_lifecycle.CurrentHead.settling_epoch.Tie as tie

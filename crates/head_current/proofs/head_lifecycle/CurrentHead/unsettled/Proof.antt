@@ -1,3 +1,4 @@
+-- `head_current::head_lifecycle::CurrentHead::unsettled` meets its contract: on each way through its code the result is what the definition gives.
 use Rattle.head_current.specs.Heads.{unsettled}
 use Rattle.head_current.proofs.head_lifecycle.CurrentHead.unsettled.Statement.{statement}
 use Rattle.head_current.proofs.head_lifecycle.CurrentHead.unsettled.Tie as tie

@@ -1,3 +1,4 @@
+-- `head_current::head_lifecycle::HeadDelivery::has_ticket` meets its contract: on each way through its code the result is what the definition gives.
 use Rattle.head_current.specs.Heads.{ticketOf}
 use Rattle.head_current.proofs.head_lifecycle.HeadDelivery.has_ticket.Statement.{statement}
 use Rattle.head_current.proofs.head_lifecycle.HeadDelivery.has_ticket.Tie as tie

@@ -1,3 +1,4 @@
+-- `head_current::head_lifecycle::UnsettledHead::abandoned` meets its contract: on each way through its code the result is what the definition gives.
 use Rattle.head_current.specs.Moves.{abandonment}
 use Rattle.head_current.proofs.head_lifecycle.UnsettledHead.abandoned.Statement.{statement}
 use Rattle.head_current.proofs.head_lifecycle.UnsettledHead.abandoned.Tie as tie

@@ -1,3 +1,4 @@
+-- `head_driver::head_lifecycle::Answer::number` meets its contract: on each way through its code the result is what the definition gives.
 use Rattle.head_driver.specs.Answers.{said}
 use Rattle.head_driver.proofs.head_lifecycle.Answer.number.Statement.{statement}
 use Rattle.head_driver.proofs.head_lifecycle.Answer.number.Tie as tie

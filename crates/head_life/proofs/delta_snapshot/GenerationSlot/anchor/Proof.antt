@@ -1,3 +1,4 @@
+-- `head_life::delta_snapshot::GenerationSlot::anchor` meets its contract: on each way through its code the result is what the definition gives.
 use Rattle.head_life.specs.Generations.{slotAnchor}
 use Rattle.head_life.proofs.delta_snapshot.GenerationSlot.anchor.Statement.{statement}
 use Rattle.head_life.proofs.delta_snapshot.GenerationSlot.anchor.Tie as tie

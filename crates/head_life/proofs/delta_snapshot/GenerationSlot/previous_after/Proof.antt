@@ -1,3 +1,4 @@
+-- `head_life::delta_snapshot::GenerationSlot::previous_after` meets its contract: on each way through its code the result is what the definition gives.
 use Rattle.head_life.specs.Generations.{previousAfter}
 use Rattle.head_life.proofs.delta_snapshot.GenerationSlot.previous_after.Statement.{statement}
 use Rattle.head_life.proofs.delta_snapshot.GenerationSlot.previous_after.Tie as tie

@@ -1,3 +1,4 @@
+-- `head_life::head_lifecycle::HeadLifecycle::plan_apply` meets its contract: on each way through its code the result is what the definition gives.
 use Rattle.head_life.specs.Apply.{planApply}
 use Rattle.head_life.proofs.head_lifecycle.HeadLifecycle.plan_apply.Statement.{statement}
 use Rattle.head_life.proofs.head_lifecycle.HeadLifecycle.plan_apply.Tie as tie

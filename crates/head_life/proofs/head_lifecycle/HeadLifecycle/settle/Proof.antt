@@ -1,3 +1,4 @@
+-- `head_life::head_lifecycle::HeadLifecycle::settle` meets its contract: on each way through its code the result is what the definition gives.
 use Rattle.head_life.specs.Apply.{settle}
 use Rattle.head_life.proofs.head_lifecycle.HeadLifecycle.settle.Statement.{statement}
 use Rattle.head_life.proofs.head_lifecycle.HeadLifecycle.settle.Tie as tie

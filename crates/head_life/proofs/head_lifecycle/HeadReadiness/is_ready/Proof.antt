@@ -1,3 +1,4 @@
+-- `head_life::head_lifecycle::HeadReadiness::is_ready` meets its contract: on each way through its code the result is what the definition gives.
 use Rattle.head_life.specs.Generations.{isReady}
 use Rattle.head_life.proofs.head_lifecycle.HeadReadiness.is_ready.Statement.{statement}
 use Rattle.head_life.proofs.head_lifecycle.HeadReadiness.is_ready.Tie as tie

@@ -1,3 +1,4 @@
+-- `head_step::head_lifecycle::InputRefusal::number` meets its contract: on each way through its code the result is what the definition gives.
 use Rattle.head_step.specs.Inputs.{inputNumber}
 use Rattle.head_step.proofs.head_lifecycle.InputRefusal.number.Statement.{statement}
 use Rattle.head_step.proofs.head_lifecycle.InputRefusal.number.Tie as tie
