@@ -456,22 +456,16 @@ fn known(number: u64) -> ReadAnchor
     }
 }
 
-fn ticket(anchor: ReadAnchor, seq: u64) -> HeadTicket
-    ensures { λ r. ⌜ r ≡ record { anchor = anchor; seq = record { 0 = seq } } ⌝ }
+fn ticket(anchor: ReadAnchor, seq: Seq) -> HeadTicket
+    ensures { λ r. ⌜ r ≡ record { anchor = anchor; seq = seq } ⌝ }
 {
-    HeadTicket {
-        anchor,
-        seq: Seq(seq),
-    }
+    HeadTicket { anchor, seq }
 }
 
-fn owner(seq: u64, epoch: u64) -> PrepareClaim
-    ensures { λ r. ⌜ r ≡ record { seq = record { 0 = seq }; epoch = record { 0 = epoch } } ⌝ }
+fn owner(seq: Seq, epoch: Epoch) -> PrepareClaim
+    ensures { λ r. ⌜ r ≡ record { seq = seq; epoch = epoch } ⌝ }
 {
-    PrepareClaim {
-        seq: Seq(seq),
-        epoch: Epoch(epoch),
-    }
+    PrepareClaim { seq, epoch }
 }
 
 fn list(anchor: ReadAnchor, skip: BalSkip) -> PreparedBal
@@ -504,12 +498,12 @@ fn links(d: Driver) -> Driver
 fn main() {
     let mut d = links(new());
     // E5, E6: a new driver, claim and apply.
-    d = play(d, Call::Claim(ticket(bare(7), 1)));
+    d = play(d, Call::Claim(ticket(bare(7), Seq(1))));
     d = play(d, Call::Stats);
     d = play(
         d,
         Call::Apply(
-            ticket(bare(7), 1),
+            ticket(bare(7), Seq(1)),
             list(bare(7), BalSkip::NoHash),
             60,
             0,
@@ -526,9 +520,9 @@ fn main() {
     d = play(d, Call::Deliver(bare(7), hash_of(0), 51));
     d = play(d, Call::Stats);
     // E9: release with epoch 2 against 1; the head is preparing still.
-    d = play(d, Call::Claim(ticket(bare(7), 1)));
-    d = play(d, Call::Release(owner(1, 2)));
-    d = play(d, Call::Claim(ticket(bare(7), 1)));
+    d = play(d, Call::Claim(ticket(bare(7), Seq(1))));
+    d = play(d, Call::Release(owner(Seq(1), Epoch(2))));
+    d = play(d, Call::Claim(ticket(bare(7), Seq(1))));
     // E10: waiter 15 is accepted, 16 refused 3.
     d = play(new(), Call::Wait(15, bare(7), 51));
     d = play(d, Call::Wait(16, bare(7), 51));
@@ -537,7 +531,7 @@ fn main() {
     d = play(
         d,
         Call::Apply(
-            ticket(known(1), 1),
+            ticket(known(1), Seq(1)),
             list(known(1), BalSkip::Nothing),
             60,
             0,
@@ -545,14 +539,14 @@ fn main() {
         ),
     );
     d = play(d, Call::Deliver(known(2), hash_of(1), 51));
-    d = play(d, Call::Claim(ticket(known(2), 2)));
+    d = play(d, Call::Claim(ticket(known(2), Seq(2))));
     d = play(d, Call::Wait(0, known(2), 52));
-    d = play(d, Call::Release(owner(2, 1)));
-    d = play(d, Call::Claim(ticket(known(2), 2)));
+    d = play(d, Call::Release(owner(Seq(2), Epoch(1))));
+    d = play(d, Call::Claim(ticket(known(2), Seq(2))));
     d = play(
         d,
         Call::Apply(
-            ticket(known(2), 2),
+            ticket(known(2), Seq(2)),
             list(known(2), BalSkip::Nothing),
             61,
             5,
