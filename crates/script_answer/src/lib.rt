@@ -1,0 +1,64 @@
+// Answers as lines, into the caller's buffer.
+// Knows nothing of calls, nor of the driver that answers them.
+ghost use Prim.Native.Nat.{_+_, _≤_};
+ghost use lib.ListN.{length};
+ghost use Rattle.script_answer.specs.Answers.{answerLine};
+ghost use Rattle.script_lines.specs.Lines.{answerText};
+ghost use Rattle.script_value.specs.Buffers.{AtFront};
+ghost use Rattle.text.specs.Writes.{Wrote};
+use head_driver::head_lifecycle::Answer;
+use script_lines::lines::put_claimed;
+use script_lines::lines::put_completion;
+use script_lines::lines::put_heads;
+use script_lines::lines::put_link_line;
+use script_lines::lines::put_report_line;
+use script_lines::lines::put_stats_line;
+use script_lines::lines::put_ticket;
+use script_lines::lines::put_view;
+use script_lines::refusals::put_head_outcome;
+use script_value::buffer::Written;
+use text::put::put;
+
+// No answer is longer than `heads`; the rest of the room is for answers to come.
+pub(crate) fn put_text(buf: &mut [u8], at: usize, answer: Answer) -> usize
+    requires { ⌜ at + 511 ≤ length (now buf) ⌝ }
+    ensures { λ r. ⌜ Wrote (now (buf .entry)) (now (buf .exit)) at r (answerText answer) ⌝ }
+    ensures { λ r. ⌜ r ≤ at + 511 ⌝ }
+{
+    match answer {
+        Answer::Ticket(seq) => put_ticket(buf, at, seq),
+        Answer::Claimed(epoch) => put_claimed(buf, at, epoch),
+        Answer::Done => put(buf, at, b"(done)"),
+        Answer::Outcome(outcome) => put_head_outcome(buf, at, outcome),
+        Answer::View(view) => put_view(buf, at, view),
+        Answer::Parked => put(buf, at, b"(parked)"),
+        Answer::Completion(end) => put_completion(buf, at, end),
+        Answer::Link(link) => put_link_line(buf, at, link),
+        Answer::Report(report) => put_report_line(buf, at, report),
+        Answer::Stats(stats) => put_stats_line(buf, at, stats),
+        Answer::Heads(current, installed, previous) => put_heads(
+            buf,
+            at,
+            current,
+            installed,
+            previous,
+        ),
+        Answer::ListAtOdds => put(buf, at, b"(refused 2)"),
+        Answer::WaiterOutOfRange => put(buf, at, b"(refused 3)"),
+        Answer::WaiterTaken => put(buf, at, b"(refused 15)"),
+        Answer::WaiterFree => put(buf, at, b"(refused 16)"),
+    }
+}
+
+// Writes an answer's line and its line feed at the front of a buffer. Every answer asks for the same room, so that a host that lends
+// 512 bytes is never refused.
+pub fn put_answer(buf: &mut [u8], answer: Answer) -> Written
+    ensures { λ r. ⌜ AtFront 512 (now (buf .entry)) (now (buf .exit)) (answerLine answer) r ⌝ }
+{
+    if buf.len() < 512 {
+        return Written::TooShort;
+    }
+    let i = put_text(buf, 0, answer);
+    let end = put(buf, i, b"\n");
+    Written::Bytes(end)
+}

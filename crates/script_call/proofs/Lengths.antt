@@ -1,0 +1,24 @@
+-- No call has more than 297 bytes, and so no line of a call is too long.
+use Prim.Native.Nat.{_≤_}
+use native.Mathlib.Omega.{arith}
+use lib.ListN.{length, length-append}
+use Rattle.head_step.specs.declared.head_lifecycle.Call.{Call}
+use Rattle.text.proofs.Back.{length-decimal}
+use Rattle.hash_text.proofs.Back.{length-line-hash}
+use Rattle.call_value.proofs.Lengths.{length-anchor, length-slot, length-skip}
+use Rattle.script_call.specs.Texts.{callText}
+
+pub length-call : (c : Call) → length (callText c) ≤ 297
+unfolding callText
+length-call (Call.Deliver a p h) = simp length-append (omega (arith, length-anchor a, length-line-hash p, length-decimal h))
+length-call (Call.Claim ticket) = simp length-append (omega (arith, length-anchor (ticket .anchor), length-decimal (ticket .seq .0)))
+length-call (Call.Release owner) = simp length-append (omega (arith, length-decimal (owner .seq .0), length-decimal (owner .epoch .0)))
+length-call (Call.Apply ticket list h c made) = simp length-append (omega (arith, length-anchor (ticket .anchor), length-decimal (ticket .seq .0), length-anchor (list .anchor), length-skip (list .skip), length-decimal h, length-decimal c, length-decimal made))
+length-call (Call.Snapshot a h) = simp length-append (omega (arith, length-anchor a, length-decimal h))
+length-call (Call.Wait n a h) = simp length-append (omega (arith, length-decimal n, length-anchor a, length-decimal h))
+length-call (Call.Resume n h) = simp length-append (omega (arith, length-decimal n, length-decimal h))
+length-call (Call.Completion a) = simp length-append (omega (arith, length-anchor a))
+length-call (Call.Link parent a p) = simp length-append (omega (arith, length-slot parent, length-anchor a, length-line-hash p))
+length-call Call.Report = omega arith
+length-call Call.Stats = omega arith
+length-call Call.Heads = omega arith

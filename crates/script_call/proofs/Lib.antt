@@ -1,0 +1,8 @@
+-- For users: Back, a call's own line is read as that call; Only, no other line is; Ranges, what a line writes is below 2^64; Lengths, no call has more than
+-- 297 bytes. Places and Named have the steps of single functions.
+pub mod Back
+pub mod Only
+pub mod Ranges
+pub mod Lengths
+pub mod Places
+pub mod Named

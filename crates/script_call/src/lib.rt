@@ -1,0 +1,319 @@
+// Call lines: from the bytes of a line to the call that they write, or to no call.
+// Knows nothing of what a call does, nor of answers.
+ghost use mathlib.Core.Path.{_≡_};
+ghost use Rattle.script_call.specs.Calls.{ends as Calls·ends, closed as Calls·closed, spacedTicket, spacedList, readDeliver, readClaim, readRelease, readApply, readSnapshot, readWait, readResume, readCompletion, readLink, readReport, readStats, readHeads, readSheet, callNamed, laterNamed, call};
+ghost use Rattle.text.specs.Places.{here, Reads};
+use call_value::spaced::spaced_anchor;
+use call_value::spaced::spaced_hash;
+use call_value::spaced::spaced_number;
+use call_value::spaced::spaced_skip;
+use call_value::spaced::spaced_slot;
+use head_anchor::read_hub::PreparedBal;
+use head_count::head_lifecycle::Epoch;
+use head_count::head_lifecycle::Seq;
+use head_current::head_lifecycle::HeadTicket;
+use head_current::head_lifecycle::PrepareClaim;
+use head_step::head_lifecycle::Call;
+use text::place::Place;
+use text::place::at_end;
+use text::place::expect;
+use text::place::past;
+use text::place::word_from;
+use text::word::same;
+
+// What a line asks for. The sheet is no call on the driver: it is written into the caller's buffer.
+pub enum LineCall {
+    NoCall,
+    Sheet,
+    Make(Call),
+}
+
+// A ticket and the place after it.
+pub struct TicketFrom {
+    pub value: HeadTicket,
+    pub next: Place,
+}
+
+// A prepared list and the place after it.
+pub struct ListFrom {
+    pub value: PreparedBal,
+    pub next: Place,
+}
+
+// Whether one bracket is all that is left of the line.
+pub(crate) fn ends(line: &[u8], from: Place) -> bool
+    ensures { λ r. ⌜ r ≡ Calls·ends (here (now (line .entry)) from) ⌝ }
+{
+    at_end(line, expect(line, from, b")"))
+}
+
+// The call, where the line ends with it.
+pub(crate) fn closed(line: &[u8], from: Place, call: Call) -> LineCall
+    ensures { λ r. ⌜ r ≡ Calls·closed (here (now (line .entry)) from) call ⌝ }
+{
+    if ends(line, from) {
+        LineCall::Make(call)
+    } else {
+        LineCall::NoCall
+    }
+}
+
+// ` A SEQ`: a delivery, as a claim and an apply name it.
+pub(crate) fn spaced_ticket(line: &[u8], from: Place) -> TicketFrom
+    ensures { λ r. ⌜ Reads (now (line .entry)) (r .value) (r .next) (spacedTicket (here (now (line .entry)) from)) ⌝ }
+{
+    let a = spaced_anchor(line, from);
+    let i = a.next;
+    let n = spaced_number(line, i);
+    let anchor = a.value;
+    let next = n.next;
+    TicketFrom {
+        value: HeadTicket {
+            anchor,
+            seq: Seq(n.value),
+        },
+        next,
+    }
+}
+
+// ` A X`: the list that an apply takes.
+pub(crate) fn spaced_list(line: &[u8], from: Place) -> ListFrom
+    ensures { λ r. ⌜ Reads (now (line .entry)) (r .value) (r .next) (spacedList (here (now (line .entry)) from)) ⌝ }
+{
+    let a = spaced_anchor(line, from);
+    let i = a.next;
+    let x = spaced_skip(line, i);
+    let anchor = a.value;
+    let skip = x.value;
+    let next = x.next;
+    ListFrom {
+        value: PreparedBal { anchor, skip },
+        next,
+    }
+}
+
+// `(deliver A P H)`, from the place after its keyword.
+pub(crate) fn read_deliver(line: &[u8], from: Place) -> LineCall
+    ensures { λ r. ⌜ r ≡ readDeliver (here (now (line .entry)) from) ⌝ }
+{
+    let a = spaced_anchor(line, from);
+    let i = a.next;
+    let p = spaced_hash(line, i);
+    let j = p.next;
+    let h = spaced_number(line, j);
+    let k = h.next;
+    let anchor = a.value;
+    let parent_hash = p.value;
+    closed(line, k, Call::Deliver(anchor, parent_hash, h.value))
+}
+
+// `(claim A SEQ)`
+pub(crate) fn read_claim(line: &[u8], from: Place) -> LineCall
+    ensures { λ r. ⌜ r ≡ readClaim (here (now (line .entry)) from) ⌝ }
+{
+    let t = spaced_ticket(line, from);
+    let i = t.next;
+    let ticket = t.value;
+    closed(line, i, Call::Claim(ticket))
+}
+
+// `(release SEQ EPOCH)`
+pub(crate) fn read_release(line: &[u8], from: Place) -> LineCall
+    ensures { λ r. ⌜ r ≡ readRelease (here (now (line .entry)) from) ⌝ }
+{
+    let n = spaced_number(line, from);
+    let i = n.next;
+    let e = spaced_number(line, i);
+    let j = e.next;
+    let owner = PrepareClaim {
+        seq: Seq(n.value),
+        epoch: Epoch(e.value),
+    };
+    closed(line, j, Call::Release(owner))
+}
+
+// `(apply A SEQ A X H C REPORT)`
+pub(crate) fn read_apply(line: &[u8], from: Place) -> LineCall
+    ensures { λ r. ⌜ r ≡ readApply (here (now (line .entry)) from) ⌝ }
+{
+    let t = spaced_ticket(line, from);
+    let i = t.next;
+    let b = spaced_list(line, i);
+    let i = b.next;
+    let h = spaced_number(line, i);
+    let i = h.next;
+    let c = spaced_number(line, i);
+    let i = c.next;
+    let made = spaced_number(line, i);
+    let i = made.next;
+    let ticket = t.value;
+    let list = b.value;
+    closed(
+        line,
+        i,
+        Call::Apply(ticket, list, h.value, c.value, made.value),
+    )
+}
+
+// `(snapshot A H)`
+pub(crate) fn read_snapshot(line: &[u8], from: Place) -> LineCall
+    ensures { λ r. ⌜ r ≡ readSnapshot (here (now (line .entry)) from) ⌝ }
+{
+    let a = spaced_anchor(line, from);
+    let i = a.next;
+    let h = spaced_number(line, i);
+    let j = h.next;
+    let anchor = a.value;
+    closed(line, j, Call::Snapshot(anchor, h.value))
+}
+
+// `(wait N A H)`
+pub(crate) fn read_wait(line: &[u8], from: Place) -> LineCall
+    ensures { λ r. ⌜ r ≡ readWait (here (now (line .entry)) from) ⌝ }
+{
+    let n = spaced_number(line, from);
+    let i = n.next;
+    let a = spaced_anchor(line, i);
+    let j = a.next;
+    let h = spaced_number(line, j);
+    let k = h.next;
+    let anchor = a.value;
+    closed(line, k, Call::Wait(n.value, anchor, h.value))
+}
+
+// `(resume N H)`
+pub(crate) fn read_resume(line: &[u8], from: Place) -> LineCall
+    ensures { λ r. ⌜ r ≡ readResume (here (now (line .entry)) from) ⌝ }
+{
+    let n = spaced_number(line, from);
+    let i = n.next;
+    let h = spaced_number(line, i);
+    let j = h.next;
+    closed(line, j, Call::Resume(n.value, h.value))
+}
+
+// `(completion A)`
+pub(crate) fn read_completion(line: &[u8], from: Place) -> LineCall
+    ensures { λ r. ⌜ r ≡ readCompletion (here (now (line .entry)) from) ⌝ }
+{
+    let a = spaced_anchor(line, from);
+    let i = a.next;
+    let anchor = a.value;
+    closed(line, i, Call::Completion(anchor))
+}
+
+// `(link A A P)` or `(link none A P)`
+pub(crate) fn read_link(line: &[u8], from: Place) -> LineCall
+    ensures { λ r. ⌜ r ≡ readLink (here (now (line .entry)) from) ⌝ }
+{
+    let s = spaced_slot(line, from);
+    let i = s.next;
+    let a = spaced_anchor(line, i);
+    let j = a.next;
+    let p = spaced_hash(line, j);
+    let k = p.next;
+    let parent = s.value;
+    let anchor = a.value;
+    let parent_hash = p.value;
+    closed(line, k, Call::Link(parent, anchor, parent_hash))
+}
+
+// `(report)`
+pub(crate) fn read_report(line: &[u8], from: Place) -> LineCall
+    ensures { λ r. ⌜ r ≡ readReport (here (now (line .entry)) from) ⌝ }
+{
+    closed(line, from, Call::Report)
+}
+
+// `(stats)`
+pub(crate) fn read_stats(line: &[u8], from: Place) -> LineCall
+    ensures { λ r. ⌜ r ≡ readStats (here (now (line .entry)) from) ⌝ }
+{
+    closed(line, from, Call::Stats)
+}
+
+// `(heads)`
+pub(crate) fn read_heads(line: &[u8], from: Place) -> LineCall
+    ensures { λ r. ⌜ r ≡ readHeads (here (now (line .entry)) from) ⌝ }
+{
+    closed(line, from, Call::Heads)
+}
+
+// `(sheet)`
+pub(crate) fn read_sheet(line: &[u8], from: Place) -> LineCall
+    ensures { λ r. ⌜ r ≡ readSheet (here (now (line .entry)) from) ⌝ }
+{
+    if ends(line, from) {
+        LineCall::Sheet
+    } else {
+        LineCall::NoCall
+    }
+}
+
+// The calls that come last in document 01.
+pub(crate) fn by_later_word(line: &[u8], word: &[u8], from: Place) -> LineCall
+    ensures { λ r. ⌜ r ≡ laterNamed (now (word .entry)) (here (now (line .entry)) from) ⌝ }
+{
+    if same(word, b"completion") {
+        return read_completion(line, from);
+    }
+    if same(word, b"link") {
+        return read_link(line, from);
+    }
+    if same(word, b"report") {
+        return read_report(line, from);
+    }
+    if same(word, b"stats") {
+        return read_stats(line, from);
+    }
+    if same(word, b"heads") {
+        return read_heads(line, from);
+    }
+    if same(word, b"sheet") {
+        return read_sheet(line, from);
+    }
+    LineCall::NoCall
+}
+
+// The call of a keyword, with the place after it.
+pub(crate) fn by_word(line: &[u8], word: &[u8], from: Place) -> LineCall
+    ensures { λ r. ⌜ r ≡ callNamed (now (word .entry)) (here (now (line .entry)) from) ⌝ }
+{
+    if same(word, b"deliver") {
+        return read_deliver(line, from);
+    }
+    if same(word, b"claim") {
+        return read_claim(line, from);
+    }
+    if same(word, b"release") {
+        return read_release(line, from);
+    }
+    if same(word, b"apply") {
+        return read_apply(line, from);
+    }
+    if same(word, b"snapshot") {
+        return read_snapshot(line, from);
+    }
+    if same(word, b"wait") {
+        return read_wait(line, from);
+    }
+    if same(word, b"resume") {
+        return read_resume(line, from);
+    }
+    by_later_word(line, word, from)
+}
+
+// The call of a line, which comes without its line feed. No call is longer than 297 bytes; 512 is document 01's limit for a line.
+pub fn read_call(line: &[u8]) -> LineCall
+    ensures { λ r. ⌜ r ≡ call (now (line .entry)) ⌝ }
+{
+    if line.len() == 0 {
+        return LineCall::NoCall;
+    }
+    if line.len() > 512 {
+        return LineCall::NoCall;
+    }
+    let from = expect(line, Place::At(0), b"(");
+    let word = word_from(line, from);
+    by_word(line, word, past(line, from, word.len()))
+}

@@ -1,0 +1,2 @@
+-- Statistics is the step of a single function.
+pub mod Statistics

@@ -1,0 +1,41 @@
+use native.Mathlib.Omega.{arith}
+use borrow.Author.Needs.{needs}
+use Rattle.head_anchor.specs.Values.{skipValue}
+use Rattle.script_value.specs.Values.{valueText}
+use Rattle.script_value.specs.Words.{wordText}
+use Rattle.text.proofs.Writes.{then}
+use Rattle.script_outcome.specs.Texts.{skipText}
+use Rattle.script_outcome.proofs.outcome.put_skip.Statement.{statement}
+use Rattle.script_outcome.proofs.outcome.put_skip.Tie as tie
+
+returns : tie.Need-returns
+unfolding skipText skipValue valueText wordText
+returns c = (rw (c .before .before .before .before .before .enum-told .given .1) (c .before .before .put .ensures .0), omega arith)
+
+returns-2 : tie.Need-returns-2
+unfolding skipText skipValue valueText wordText
+returns-2 c = (rw (c .before .before .before .before .before .enum-told2 .given .1) (c .before .before .put2 .ensures .0), omega arith)
+
+returns-3 : tie.Need-returns-3
+unfolding skipText skipValue valueText wordText
+returns-3 c =
+    let c3 = c .before .before in
+    let c2 = c3 .before .before .before .before .before in
+    let c1 = c2 .before .before .before .before in
+    (rw (c1 .before .before .before .before .skip .given .1) (then (c1 .put3 .ensures .0) (then (c2 .put-decimal .ensures .0) (c3 .put4 .ensures .0))), omega arith)
+
+returns-4 : tie.Need-returns-4
+unfolding skipText skipValue valueText wordText
+returns-4 c =
+    let c3 = c .before .before in
+    let c2 = c3 .before .before .before .before .before in
+    let c1 = c2 .before .before .before .before in
+    (rw (c1 .before .before .before .before .skip2 .given .1) (then (c1 .put5 .ensures .0) (then (c2 .put-decimal2 .ensures .0) (c3 .put6 .ensures .0))), omega arith)
+
+pub put-skip-spec : {M : Type 1} → statement M
+put-skip-spec = tie.close (tie.spec
+    (λ c. c .match .keys1) (search needs) (search needs) (λ c. c .match .keys2) (search needs)
+    (search needs) (λ c. c .match .keys3) (search needs) (search needs) (search needs)
+    (search needs) (search needs) (λ c. c .match .keys4) (search needs) (search needs)
+    (search needs) (search needs) (search needs) (search needs) returns (search needs)
+    returns-2 (search needs) returns-3 (search needs) returns-4)

@@ -1,0 +1,46 @@
+-- A name for the text of each value that holds no hash: it is the same on a line and on a sheet.
+use Prim.Native.Nat.{ℕ}
+use mathlib.Core.List.{List}
+use Rattle.head_anchor.specs.Values.{Value, faultValue, linkValue, outcomeValue, skipValue}
+use Rattle.head_anchor.specs.Words.{Word}
+use Rattle.head_driver.specs.Answers.{endValue, readinessValue, reportValue, sourceValue}
+use Rattle.script_value.specs.Values.{valueText}
+use Rattle.head_anchor.specs.declared.bal_prefetch.BalSkip.{BalSkip}
+use Rattle.head_anchor.specs.declared.read_hub.CarryOutcome.{CarryOutcome}
+use Rattle.head_anchor.specs.declared.read_hub.Link.{Link}
+use Rattle.head_count.specs.declared.head_lifecycle.HeadCompletion.{HeadCompletion}
+use Rattle.head_current.specs.declared.head_lifecycle.LastReport.{LastReport}
+use Rattle.head_life.specs.declared.head_lifecycle.HeadCold.{HeadCold}
+use Rattle.head_life.specs.declared.head_lifecycle.HeadReadiness.{HeadReadiness}
+use Rattle.head_life.specs.declared.head_lifecycle.Source.{Source}
+use Rattle.script_value.specs.declared.page.Page.{Page}
+
+unfoldable pub linkText : Link → List ℕ
+linkText link = valueText Page.Line (linkValue link)
+
+unfoldable pub faultText : Link → List ℕ
+faultText link = valueText Page.Line (faultValue link)
+
+unfoldable pub skipText : BalSkip → List ℕ
+skipText skip = valueText Page.Line (skipValue skip)
+
+unfoldable pub coldText : Link → BalSkip → List ℕ
+coldText link skip = valueText Page.Line (Value.three (Value.word Word.cold) (faultValue link) (skipValue skip))
+
+unfoldable pub outcomeText : CarryOutcome → List ℕ
+outcomeText o = valueText Page.Line (outcomeValue o)
+
+unfoldable pub reportText : LastReport → List ℕ
+reportText r = valueText Page.Line (reportValue r)
+
+unfoldable pub reasonText : HeadCold → List ℕ
+reasonText reason = valueText Page.Line (readinessValue (HeadReadiness.Cold reason))
+
+unfoldable pub readinessText : HeadReadiness → List ℕ
+readinessText r = valueText Page.Line (readinessValue r)
+
+unfoldable pub sourceText : Source → List ℕ
+sourceText s = valueText Page.Line (sourceValue s)
+
+unfoldable pub endText : HeadCompletion → List ℕ
+endText e = valueText Page.Line (endValue e)

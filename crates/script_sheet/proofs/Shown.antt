@@ -1,0 +1,42 @@
+-- What is not shown is nowhere written.
+use Prim.Native.Nat.{ℕ, suc}
+use mathlib.Core.List.{List, [], _∷_, _++_}
+use mathlib.Core.Path.{_≡_, refl}
+use Rattle.alike.specs.Canon.{canon, shownHead, shownLife, shownSuperseded, shownWaiter, shownWaiters}
+use Rattle.sheet_lines.specs.Lines.{countLine, currentLine, deliveryText, installedLine, previousLine, supersededLine, unsettledText, waiterLine, waiterLines}
+use Rattle.head_anchor.specs.declared.storage_memo.AnchorSlot.{AnchorSlot}
+use Rattle.head_count.specs.declared.head_lifecycle.Epoch.{Epoch}
+use Rattle.head_count.specs.declared.head_lifecycle.Waiter.{Waiter}
+use Rattle.head_count.specs.declared.head_lifecycle.WaiterSlot.{WaiterSlot}
+use Rattle.head_current.specs.declared.head_lifecycle.CurrentHead.{CurrentHead}
+use Rattle.head_driver.specs.declared.head_lifecycle.Driver.{Driver}
+use Rattle.head_life.specs.declared.head_lifecycle.HeadLifecycle.{HeadLifecycle}
+use Rattle.script_sheet.specs.Sheets.{lifeLines, linesOf, sheetText}
+
+pub current-shown : (n : ℕ) (e : Epoch) (c : CurrentHead) → currentLine (shownHead n e c) ≡ currentLine c
+unfolding currentLine shownHead unsettledText deliveryText
+current-shown n e CurrentHead.Absent = refl
+current-shown n e (CurrentHead.Unclaimed u) = refl
+current-shown n e (CurrentHead.Preparing u) = refl
+current-shown n e (CurrentHead.Settled s) = refl
+
+pub life-shown : (l : HeadLifecycle) (s : AnchorSlot) → s ≡ shownSuperseded (l .current) (l .previous) (l .superseded)
+    → countLine (l .stats) (l .«claim_epoch») ++ (currentLine (l .current) ++ (supersededLine s ++ (installedLine (l .installed) ++ previousLine (l .previous)))) ≡ lifeLines (shownLife l)
+unfolding lifeLines shownLife
+life-shown l s e = rw (e, current-shown (l .stats .delivered) (l .«claim_epoch») (l .current))
+
+waiter-shown : (n : ℕ) (w : Waiter) → waiterLine n (shownWaiter w) ≡ waiterLine n w
+unfolding shownWaiter
+waiter-shown n Waiter.Free = refl
+waiter-shown n Waiter.Parked = refl
+waiter-shown n (Waiter.Abandoned a) = refl
+waiter-shown n (Waiter.Ended a) = refl
+
+pub waiters-shown : (n : ℕ) (ws : List WaiterSlot) → waiterLines n (shownWaiters ws) ≡ waiterLines n ws
+unfolding waiterLines shownWaiters
+waiters-shown n [] = refl
+waiters-shown n (w ∷ ws) = rw (waiter-shown n (w .waiter), waiters-shown (suc n) ws)
+
+pub sheet-shown : (d : Driver) → lifeLines (shownLife (d .life)) ++ waiterLines 0 (d .waiters) ≡ sheetText d
+unfolding sheetText linesOf canon
+sheet-shown d = rw (waiters-shown 0 (d .waiters))

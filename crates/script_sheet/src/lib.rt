@@ -1,0 +1,38 @@
+// The sheet of a driver, into the caller's buffer.
+// Knows nothing of the call that asks for it.
+ghost use Prim.Native.Nat.{_≤_};
+ghost use lib.ListN.{length};
+ghost use Rattle.script_sheet.specs.Sheets.{sheetText};
+ghost use Rattle.script_value.specs.Buffers.{AtFront};
+ghost use Rattle.text.specs.Writes.{Wrote};
+use crate::life::put_life;
+use head_driver::head_lifecycle::Driver;
+use script_value::buffer::Written;
+use sheet_slots::waiters::put_waiters;
+
+pub mod life;
+pub mod mask;
+
+// No sheet is longer than 2,908 bytes; the rest of the room is for what sheets will show.
+pub(crate) fn put_lines(buf: &mut [u8], d: Driver) -> usize
+    requires { ⌜ 4096 ≤ length (now buf) ⌝ }
+    ensures { λ r. ⌜ Wrote (now (buf .entry)) (now (buf .exit)) 0 r (sheetText d) ⌝ }
+    ensures { λ r. ⌜ r ≤ 2908 ⌝ }
+{
+    let life = d.life;
+    let waiters = d.waiters;
+    let i = put_life(buf, 0, life);
+    put_waiters(buf, i, waiters)
+}
+
+// Writes the sheet at the front of a buffer. Every sheet asks for the same room, so that a host that lends 4,096 bytes is never
+// refused.
+pub fn put_sheet(buf: &mut [u8], d: Driver) -> Written
+    ensures { λ r. ⌜ AtFront 4096 (now (buf .entry)) (now (buf .exit)) (sheetText d) r ⌝ }
+{
+    if buf.len() < 4096 {
+        return Written::TooShort;
+    }
+    let end = put_lines(buf, d);
+    Written::Bytes(end)
+}

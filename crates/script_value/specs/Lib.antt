@@ -1,0 +1,5 @@
+-- Document 01, "Lines": the text of a value. Words and Values are the paper's; Texts names the text of each value; Buffers says what writing a whole text does.
+pub mod Words
+pub mod Values
+pub mod Texts
+pub mod Buffers

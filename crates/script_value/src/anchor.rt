@@ -1,0 +1,50 @@
+// Anchors as text.
+ghost use Prim.Native.Nat.{_+_, _≤_};
+ghost use lib.ListN.{length};
+ghost use Rattle.script_value.specs.Texts.{blockHashText, anchorText, slotText};
+ghost use Rattle.text.specs.Writes.{Wrote};
+use crate::page::Page;
+use crate::page::put_hash_on;
+use head_anchor::storage_memo::AnchorSlot;
+use head_anchor::storage_memo::BlockHash;
+use head_anchor::storage_memo::ReadAnchor;
+use text::decimal::put_decimal;
+use text::put::put;
+
+// Puts an anchor's hash, or `none`.
+pub(crate) fn put_block_hash(buf: &mut [u8], at: usize, page: Page, hash: BlockHash) -> usize
+    requires { ⌜ at + 64 ≤ length (now buf) ⌝ }
+    ensures { λ r. ⌜ Wrote (now (buf .entry)) (now (buf .exit)) at r (blockHashText page hash) ⌝ }
+    ensures { λ r. ⌜ r ≤ at + 64 ⌝ }
+{
+    match hash {
+        BlockHash::Unknown => put(buf, at, b"none"),
+        BlockHash::Known(known) => put_hash_on(buf, at, page, known),
+    }
+}
+
+// Puts `(NUMBER HASH)` or `(NUMBER none)`.
+pub fn put_anchor(buf: &mut [u8], at: usize, page: Page, anchor: ReadAnchor) -> usize
+    requires { ⌜ at + 87 ≤ length (now buf) ⌝ }
+    ensures { λ r. ⌜ Wrote (now (buf .entry)) (now (buf .exit)) at r (anchorText page anchor) ⌝ }
+    ensures { λ r. ⌜ r ≤ at + 87 ⌝ }
+{
+    let hash = anchor.hash;
+    let i = put(buf, at, b"(");
+    let j = put_decimal(buf, i, anchor.number);
+    let k = put(buf, j, b" ");
+    let l = put_block_hash(buf, k, page, hash);
+    put(buf, l, b")")
+}
+
+// Puts an anchor, or `none`.
+pub fn put_slot(buf: &mut [u8], at: usize, page: Page, slot: AnchorSlot) -> usize
+    requires { ⌜ at + 87 ≤ length (now buf) ⌝ }
+    ensures { λ r. ⌜ Wrote (now (buf .entry)) (now (buf .exit)) at r (slotText page slot) ⌝ }
+    ensures { λ r. ⌜ r ≤ at + 87 ⌝ }
+{
+    match slot {
+        AnchorSlot::Nothing => put(buf, at, b"none"),
+        AnchorSlot::At(anchor) => put_anchor(buf, at, page, anchor),
+    }
+}

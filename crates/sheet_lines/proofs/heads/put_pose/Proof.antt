@@ -1,0 +1,28 @@
+use native.Mathlib.Omega.{arith}
+use borrow.Author.Needs.{needs}
+use Rattle.sheet_lines.specs.Lines.{poseText}
+use Rattle.sheet_lines.proofs.heads.put_pose.Statement.{statement}
+use Rattle.sheet_lines.proofs.heads.put_pose.Tie as tie
+
+returns : tie.Need-returns
+unfolding poseText
+returns c = (rw (c .before .before .before .before .before .enum-told .given .1) (c .before .before .put .ensures .0), omega arith)
+
+returns-2 : tie.Need-returns-2
+unfolding poseText
+returns-2 c = (rw (c .before .before .before .before .before .enum-told2 .given .1) (c .before .before .put2 .ensures .0), omega arith)
+
+returns-3 : tie.Need-returns-3
+unfolding poseText
+returns-3 c = (rw (c .before .before .before .before .before .enum-told3 .given .1) (c .before .before .put3 .ensures .0), omega arith)
+
+returns-4 : tie.Need-returns-4
+unfolding poseText
+returns-4 c = (rw (c .before .before .before .before .before .enum-told4 .given .1) (c .before .before .put4 .ensures .0), omega arith)
+
+pub put-pose-spec : {M : Type 1} → statement M
+put-pose-spec = tie.close (tie.spec
+    (λ c. c .match .keys1) (search needs) (search needs) (λ c. c .match .keys2) (search needs)
+    (search needs) (λ c. c .match .keys3) (search needs) (search needs) (λ c. c .match .keys4)
+    (search needs) (search needs) (search needs) returns (search needs) returns-2
+    (search needs) returns-3 (search needs) returns-4)

@@ -1,0 +1,2 @@
+-- Rows is the loop of a single function.
+pub mod Rows
