@@ -1,0 +1,140 @@
+-- How long a value's text can be.
+use Prim.Native.Nat.{ℕ, _≤_}
+use native.Mathlib.Omega.{arith}
+use mathlib.Core.List.{List, _++_}
+use mathlib.Core.Path.{_≡_, refl}
+use lib.ListN.{length, length-append}
+use Rattle.hash_text.proofs.Back.{length-line-hash, length-sheet-hash}
+use Rattle.head_anchor.specs.Values.{blockHashValue, faultValue, linkValue, outcomeValue, skipValue, slotValue}
+use Rattle.head_driver.specs.Answers.{endValue, readinessValue, reportValue, sourceValue}
+use Rattle.script_back.proofs.Anchors.{anchor-form}
+use Rattle.script_outcome.specs.Texts.{coldText, endText, faultText, linkText, outcomeText, readinessText, reportText, skipText, sourceText}
+use Rattle.script_value.proofs.Halves.{stats-split}
+use Rattle.script_value.specs.Texts.{anchorText, blockHashText, fourText, slotText, spacedText, statsText}
+use Rattle.script_value.specs.Values.{hashText, valueText}
+use Rattle.script_value.specs.Words.{wordText}
+use Rattle.text.proofs.Back.{length-decimal}
+use Rattle.text.specs.Ascii.{ascii}
+use Rattle.text.specs.Decimals.{decimal}
+use Rattle.hash.specs.declared.Hash.{Hash}
+use Rattle.head_anchor.specs.declared.bal_prefetch.BalSkip.{BalSkip}
+use Rattle.head_anchor.specs.declared.read_hub.CarryOutcome.{CarryOutcome}
+use Rattle.head_anchor.specs.declared.read_hub.Link.{Link}
+use Rattle.head_anchor.specs.declared.storage_memo.AnchorSlot.{AnchorSlot}
+use Rattle.head_anchor.specs.declared.storage_memo.BlockHash.{BlockHash}
+use Rattle.head_anchor.specs.declared.storage_memo.ReadAnchor.{ReadAnchor}
+use Rattle.head_count.specs.declared.head_lifecycle.HeadCompletion.{HeadCompletion}
+use Rattle.head_count.specs.declared.head_lifecycle.HeadStats.{HeadStats}
+use Rattle.head_current.specs.declared.head_lifecycle.LastReport.{LastReport}
+use Rattle.head_life.specs.declared.head_lifecycle.HeadCold.{HeadCold}
+use Rattle.head_life.specs.declared.head_lifecycle.HeadReadiness.{HeadReadiness}
+use Rattle.head_life.specs.declared.head_lifecycle.Source.{Source}
+use Rattle.script_value.specs.declared.page.Page.{Page}
+
+-- ---- counters
+
+pub spaced-most : (n : ℕ) → length (spacedText n) ≤ 21
+unfolding spacedText
+spaced-most n = omega (arith, length-decimal n)
+
+four-most : (a b c d : ℕ) → length (fourText a b c d) ≤ 84
+unfolding fourText
+four-most a b c d = simp length-append (omega (arith, spaced-most a, spaced-most b, spaced-most c, spaced-most d))
+
+pub stats-most : (s : HeadStats) → length (statsText s) ≤ 168
+stats-most s =
+    rw (← stats-split s)
+    (simp length-append
+    (omega (arith, four-most (s .delivered) (s .repeated) (s .superseded) (s .settled), four-most (s .«already_current») (s .discarded) (s .«ready_views») (s .«cold_views»))))
+
+-- ---- anchors
+
+pub hash-length : (p : Page) (h : Hash) → length (hashText p h) ≡ 64
+unfolding hashText
+hash-length Page.Line h = length-line-hash h
+hash-length Page.Sheet h = length-sheet-hash h
+
+block-hash-most : (p : Page) (h : BlockHash) → length (blockHashText p h) ≤ 64
+unfolding blockHashText blockHashValue valueText wordText
+block-hash-most p BlockHash.Unknown = omega arith
+block-hash-most p (BlockHash.Known h) = omega (arith, hash-length p h)
+
+pub anchor-most : (p : Page) (a : ReadAnchor) → length (anchorText p a) ≤ 87
+anchor-most p a = rw (anchor-form p a) (simp length-append (omega (arith, length-decimal (a .number), block-hash-most p (a .hash))))
+
+pub slot-most : (p : Page) (s : AnchorSlot) → length (slotText p s) ≤ 87
+unfolding slotText slotValue anchorText valueText wordText
+slot-most p AnchorSlot.Nothing = omega arith
+slot-most p (AnchorSlot.At a) = anchor-most p a
+
+-- ---- what holds no hash
+
+pub link-most : (k : Link) → length (linkText k) ≤ 15
+unfolding linkText linkValue valueText wordText
+link-most Link.Linked = omega arith
+link-most Link.NoParent = omega arith
+link-most Link.NotConsecutive = omega arith
+link-most Link.HashUnknown = omega arith
+link-most Link.HashMismatch = omega arith
+
+fault-most : (k : Link) → length (faultText k) ≤ 15
+unfolding faultText faultValue valueText wordText
+fault-most Link.Linked = omega arith
+fault-most Link.NoParent = omega arith
+fault-most Link.NotConsecutive = omega arith
+fault-most Link.HashUnknown = omega arith
+fault-most Link.HashMismatch = omega arith
+
+skip-most : (x : BalSkip) → length (skipText x) ≤ 29
+unfolding skipText skipValue valueText wordText
+skip-most BalSkip.Nothing = omega arith
+skip-most BalSkip.NoHash = omega arith
+skip-most (BalSkip.Rpc n) = simp length-append (omega (arith, length-decimal n))
+skip-most (BalSkip.Decode n) = simp length-append (omega (arith, length-decimal n))
+
+cold-form : (k : Link) (x : BalSkip) → coldText k x ≡ ascii "(cold " ++ (faultText k ++ (ascii " " ++ (skipText x ++ ascii ")")))
+unfolding coldText faultText skipText valueText wordText
+cold-form k x = refl
+
+cold-most : (k : Link) (x : BalSkip) → length (coldText k x) ≤ 52
+cold-most k x = rw (cold-form k x) (simp length-append (omega (arith, fault-most k, skip-most x)))
+
+pub outcome-most : (o : CarryOutcome) → length (outcomeText o) ≤ 52
+unfolding outcomeText outcomeValue coldText valueText wordText
+outcome-most (CarryOutcome.Carried n) = simp length-append (omega (arith, length-decimal n))
+outcome-most (CarryOutcome.Cold k x) = cold-most k x
+
+made-form : (o : CarryOutcome) (n : ℕ) → reportText (LastReport.Made o n) ≡ ascii "(" ++ (outcomeText o ++ (ascii " " ++ (decimal n ++ ascii ")")))
+unfolding reportText reportValue outcomeText valueText
+made-form o n = refl
+
+made-most : (o : CarryOutcome) (n : ℕ) → length (reportText (LastReport.Made o n)) ≤ 75
+made-most o n = rw (made-form o n) (simp length-append (omega (arith, outcome-most o, length-decimal n)))
+
+pub report-most : (r : LastReport) → length (reportText r) ≤ 75
+unfolding reportText reportValue valueText wordText
+report-most LastReport.Nothing = omega arith
+report-most (LastReport.Made o n) = made-most o n
+
+pub readiness-most : (r : HeadReadiness) → length (readinessText r) ≤ 52
+unfolding readinessText readinessValue coldText valueText wordText
+readiness-most HeadReadiness.Ready = omega arith
+readiness-most (HeadReadiness.Cold HeadCold.Unprepared) = omega arith
+readiness-most (HeadReadiness.Cold HeadCold.Superseded) = omega arith
+readiness-most (HeadReadiness.Cold HeadCold.Undelivered) = omega arith
+readiness-most (HeadReadiness.Cold HeadCold.Abandoned) = omega arith
+readiness-most (HeadReadiness.Cold (HeadCold.Settled k x)) = cold-most k x
+
+pub source-most : (s : Source) → length (sourceText s) ≤ 11
+unfolding sourceText sourceValue valueText wordText
+source-most Source.Installed = omega arith
+source-most Source.Provisional = omega arith
+source-most Source.Previous = omega arith
+source-most Source.Spare = omega arith
+
+pub end-most : (e : HeadCompletion) → length (endText e) ≤ 10
+unfolding endText endValue valueText wordText
+end-most HeadCompletion.Open = omega arith
+end-most HeadCompletion.Settled = omega arith
+end-most HeadCompletion.Superseded = omega arith
+end-most HeadCompletion.Abandoned = omega arith

@@ -1,0 +1,2 @@
+-- What is proved of the lengths of answer lines and sheets.
+pub mod Statements
