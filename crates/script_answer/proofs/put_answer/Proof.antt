@@ -11,9 +11,9 @@ unfolding answerLine
 returns-2 c =
     let c2 = c .before .before in
     let c1 = c2 .before .before .before .before .before in
-    at-front 512 _ _ _ _ (c1 .before .before .if1 .left) (omega arith) (then (c1 .put-text .ensures .0) (c2 .put .ensures .0))
+    at-front 512 _ _ _ _ (omega arith) (omega arith) (then (c1 .put-text .ensures .0) (c2 .put .ensures .0))
 
 pub put-answer-spec : {M : Type 1} → statement M
 put-answer-spec = tie.close (tie.spec
-    (λ c. too-short 512 _ _ (c .if1 .taken))
+    (λ c. too-short 512 _ _ (omega arith))
     (search needs) (search needs) (search needs) (search needs) returns-2)
