@@ -1,0 +1,53 @@
+-- Where the next line feed stands.
+use Prim.Native.Nat.{ℕ, _<_}
+use native.Mathlib.Omega.{arith}
+use mathlib.Core.Bool.{Bool, true, false, true≢false, false≢true}
+use mathlib.Core.List.{List, [], _∷_, _++_}
+use mathlib.Core.Path.{_≡_, refl, ap}
+use lib.Dec.{eqb}
+use lib.ListN.{length, drop}
+use borrow.Author.Tests.{eqb-true}
+use Rattle.hash.specs.Logic.{if}
+use Rattle.pending.specs.Kept.{hasFeed, throughFeed, toFeed}
+
+-- the line feed stands after the bytes before it
+pub through-feed : (s : List ℕ) → hasFeed s ≡ true → throughFeed s ≡ toFeed s ++ (10 ∷ [])
+unfolding hasFeed throughFeed toFeed
+through-feed [] h = absurd (false≢true h)
+through-feed (b ∷ s) h = go (eqb b 10) refl (through-feed s) h
+  where
+    go : (t : Bool) → eqb b 10 ≡ t → (hasFeed s ≡ true → throughFeed s ≡ toFeed s ++ (10 ∷ [])) → if t true (hasFeed s) ≡ true
+        → if t (b ∷ []) (b ∷ throughFeed s) ≡ if t [] (b ∷ toFeed s) ++ (10 ∷ [])
+    go true e more k = ap (λ (x : ℕ). x ∷ []) (eqb-true b 10 e)
+    go false e more k = ap (λ (r : List ℕ). b ∷ r) (more k)
+
+-- where there is none, all bytes stand before it
+pub no-feed : (s : List ℕ) → hasFeed s ≡ false → throughFeed s ≡ toFeed s
+unfolding hasFeed throughFeed toFeed
+no-feed [] h = refl
+no-feed (b ∷ s) h = go (eqb b 10) (no-feed s) h
+  where
+    go : (t : Bool) → (hasFeed s ≡ false → throughFeed s ≡ toFeed s) → if t true (hasFeed s) ≡ false → if t (b ∷ []) (b ∷ throughFeed s) ≡ if t [] (b ∷ toFeed s)
+    go true more k = absurd (true≢false k)
+    go false more k = ap (λ (r : List ℕ). b ∷ r) (more k)
+
+-- what is taken is the front of the text
+pub through-front : (s : List ℕ) → s ≡ throughFeed s ++ drop (length (throughFeed s)) s
+unfolding throughFeed
+through-front [] = refl
+through-front (b ∷ s) = go (eqb b 10) (through-front s)
+  where
+    go : (t : Bool) → s ≡ throughFeed s ++ drop (length (throughFeed s)) s
+        → b ∷ s ≡ if t (b ∷ []) (b ∷ throughFeed s) ++ drop (length (if t (b ∷ []) (b ∷ throughFeed s))) (b ∷ s)
+    go true more = refl
+    go false more = ap (λ (r : List ℕ). b ∷ r) more
+
+-- of a text that is not empty something is taken
+pub through-some : (s : List ℕ) → 0 < length s → 0 < length (throughFeed s)
+unfolding throughFeed
+through-some [] h = h
+through-some (b ∷ s) h = go (eqb b 10)
+  where
+    go : (t : Bool) → 0 < length (if t (b ∷ []) (b ∷ throughFeed s))
+    go true = omega arith
+    go false = omega arith

@@ -1,0 +1,4 @@
+-- For users: Feeds, where a line feed stands; Held, what is held of a line. Keeping is the loop of `keep`.
+pub mod Feeds
+pub mod Held
+pub mod Keeping

@@ -1,0 +1,49 @@
+-- The bytes of a line that has not ended, kept at the front of a buffer.
+use Prim.Native.Nat.{ℕ, _+_}
+use mathlib.Core.Bool.{Bool, true, false}
+use mathlib.Core.List.{List, [], _∷_}
+use mathlib.Core.Path.{_≡_}
+use lib.Dec.{eqb, ltb}
+use lib.ListN.{length, drop, take, set}
+use Rattle.hash.specs.Logic.{if}
+use Rattle.pending.specs.declared.Kept.{Kept}
+
+-- the buffer, and how many of its first bytes are held
+pub record Part : Type 0 where
+  pub buffer : List ℕ
+  pub held : ℕ
+
+abbrev pub part : List ℕ → ℕ → Part
+part buffer held = record { buffer = buffer; held = held }
+
+-- what is held of the line
+unfoldable pub lineSoFar : Part → List ℕ
+lineSoFar p = take (p .held) (p .buffer)
+
+-- one more byte of the line; no more than 513 are held, since a line of 513 bytes is no call, whatever follows
+unfoldable pub keepByte : Part → ℕ → Part
+keepByte p b = if (ltb (p .held) 513) (part (set (p .buffer) (p .held) b) (p .held + 1)) p
+
+unfoldable pub keepAll : Part → List ℕ → Part
+keepAll p [] = p
+keepAll p (b ∷ s) = keepAll (keepByte p b) s
+
+-- the bytes before the first line feed
+unfoldable pub toFeed : List ℕ → List ℕ
+toFeed [] = []
+toFeed (b ∷ s) = if (eqb b 10) [] (b ∷ toFeed s)
+
+-- the bytes up to it, with it; all, where there is none
+unfoldable pub throughFeed : List ℕ → List ℕ
+throughFeed [] = []
+throughFeed (b ∷ s) = if (eqb b 10) (b ∷ []) (b ∷ throughFeed s)
+
+unfoldable pub hasFeed : List ℕ → Bool
+hasFeed [] = false
+hasFeed (b ∷ s) = if (eqb b 10) true (hasFeed s)
+
+-- what is promised of a buffer as it was and as it is, and of the result
+pub record Keeps (old : List ℕ) (held : ℕ) (new input : List ℕ) (at : ℕ) (r : Kept) : Type 0 where
+  pub kept : part new (r .held) ≡ keepAll (part old held) (toFeed (drop at input))
+  pub place : r .at ≡ at + length (throughFeed (drop at input))
+  pub ended : r .ended ≡ hasFeed (drop at input)

@@ -1,0 +1,2 @@
+-- The helpers': how the bytes of a line are kept until its line feed comes.
+pub mod Kept

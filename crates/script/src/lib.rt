@@ -1,0 +1,147 @@
+// A whole input: its lines answered in turn, however it is cut into reads. Knows nothing of where bytes come from and go to.
+ghost use Prim.Native.Nat.{_+_, _≤_};
+ghost use mathlib.Core.Path.{_≡_};
+ghost use lib.ListN.{length};
+ghost use Rattle.script_call.specs.Calls.{call};
+ghost use Rattle.script.specs.Scripts.{leaves, prints};
+ghost use Rattle.script.specs.Feeds.{AnswersHeld, FeedsLine, Finishes, Prints, PutsAnswer, TakesSome, bytesWritten, reading, usable};
+use driver::LineAnswer;
+use driver::put_line;
+use driver::take_line;
+use head_driver::head_lifecycle::Driver;
+use pending::keep;
+use script_value::buffer::Written;
+
+// Where the reading of an input stands: the driver, how many bytes of a line are held, and how many bytes of the input were taken and of the output written.
+pub struct Fed {
+    pub driver: Driver,
+    pub held: usize,
+    pub taken: usize,
+    pub written: usize,
+}
+
+pub struct Printed {
+    pub driver: Driver,
+    pub written: usize,
+}
+
+pub(crate) fn usable(pending: usize, held: usize, out: usize) -> bool
+    ensures { λ r. ⌜ r ≡ usable pending held out ⌝ }
+{
+    if pending >= 513 {
+        if held <= 513 { out >= 4096 } else { false }
+    } else {
+        false
+    }
+}
+
+pub(crate) fn bytes_written(written: Written) -> usize
+    ensures { λ r. ⌜ r ≡ bytesWritten written ⌝ }
+{
+    match written {
+        Written::TooShort => 0,
+        Written::Bytes(n) => n,
+    }
+}
+
+// A sheet stands in the buffer already.
+pub(crate) fn put_answer(out: &mut [u8], answer: LineAnswer) -> usize
+    requires { ⌜ 512 ≤ length (now out) ⌝ }
+    ensures { λ r. ⌜ PutsAnswer answer (now (out .entry)) (now (out .exit)) r ⌝ }
+{
+    match answer {
+        LineAnswer::Said(said) => bytes_written(put_line(out, LineAnswer::Said(said))),
+        LineAnswer::NoCall => bytes_written(put_line(out, LineAnswer::NoCall)),
+        LineAnswer::SheetTooShort => bytes_written(put_line(out, LineAnswer::SheetTooShort)),
+        LineAnswer::Sheet(n) => n,
+    }
+}
+
+// Answers a line at the front of a buffer, which serves as the sheet's buffer too.
+pub(crate) fn print_line(d: Driver, line: &[u8], out: &mut [u8]) -> Printed
+    requires { ⌜ 4096 ≤ length (now out) ⌝ }
+    ensures { λ r. ⌜ Prints (prints d (call (now (line .entry)))) (leaves d (call (now (line .entry)))) (now (out .entry)) (now (out .exit)) r ⌝ }
+{
+    let turn = take_line(d, line, out);
+    let driver = turn.driver;
+    let answer = turn.answer;
+    let written = put_answer(out, answer);
+    Printed { driver, written }
+}
+
+// Answers what is held as a line; nothing of the next line is held.
+pub(crate) fn answer_held(fed: Fed, pending: &[u8], out: &mut [u8]) -> Fed
+    requires { ⌜ fed .held ≤ length (now pending) ⌝ }
+    requires { ⌜ fed .written + 4096 ≤ length (now out) ⌝ }
+    ensures { λ r. ⌜ AnswersHeld fed (now (pending .entry)) (now (out .entry)) (now (out .exit)) r ⌝ }
+{
+    let held = fed.held;
+    let at = fed.written;
+    let printed = print_line(fed.driver, &pending[..held], &mut out[at..]);
+    let driver = printed.driver;
+    Fed {
+        driver,
+        held: 0,
+        taken: fed.taken,
+        written: at + printed.written,
+    }
+}
+
+// Takes the input from where it stands up to the end of a line, or to its end.
+pub(crate) fn feed_line(fed: Fed, pending: &mut [u8], input: &[u8], out: &mut [u8]) -> Fed
+    requires { ⌜ 513 ≤ length (now pending) ⌝ }
+    requires { ⌜ fed .held ≤ 513 ⌝ }
+    requires { ⌜ fed .taken ≤ length (now input) ⌝ }
+    requires { ⌜ fed .written + 4096 ≤ length (now out) ⌝ }
+    ensures { λ r. ⌜ FeedsLine fed (now (pending .entry)) (now (pending .exit)) (now (input .entry)) (now (out .entry)) (now (out .exit)) r ⌝ }
+{
+    let kept = keep(pending, fed.held, input, fed.taken);
+    let now = Fed {
+        held: kept.held,
+        taken: kept.at,
+        ..fed
+    };
+    if kept.ended {
+        answer_held(now, pending, out)
+    } else {
+        now
+    }
+}
+
+// Takes the next bytes of an input, as many as there is room for the answers of, and writes these at the front of `out`. The caller
+// hands the rest over again, and keeps `pending` and `held` for the next call.
+pub fn feed(d: Driver, pending: &mut [u8], held: usize, input: &[u8], out: &mut [u8]) -> Fed
+    ensures { λ r. ⌜ TakesSome (reading d (now (pending .entry)) held) (reading (r .driver) (now (pending .exit)) (r .held)) (now (input .entry)) (now (out .entry)) (now (out .exit)) r ⌝ }
+{
+    let mut fed = Fed {
+        driver: d,
+        held,
+        taken: 0,
+        written: 0,
+    };
+    if !usable(pending.len(), held, out.len()) {
+        return fed;
+    }
+    while fed.taken < input.len() {
+        if out.len() - fed.written < 4096 {
+            return fed;
+        }
+        fed = feed_line(fed, pending, input, out);
+    }
+    fed
+}
+
+// The end of the input: what is held is a last line without its line feed.
+pub fn finish(d: Driver, pending: &[u8], held: usize, out: &mut [u8]) -> Printed
+    ensures { λ r. ⌜ Finishes (reading d (now (pending .entry)) held) (now (out .entry)) (now (out .exit)) r ⌝ }
+{
+    if held > 0 {
+        if usable(pending.len(), held, out.len()) {
+            return print_line(d, &pending[..held], out);
+        }
+    }
+    Printed {
+        driver: d,
+        written: 0,
+    }
+}
