@@ -37,13 +37,13 @@ unfolding shownSuperseded maskBy
 superseded-range c previous AnchorSlot.Nothing f = tt
 superseded-range c previous (AnchorSlot.At a) f = if-fits (masked c previous a) a (anchor-range a f)
 
-skip-range : (x : BalSkip) → A.SkipFits x → SkipFits x
+pub skip-range : (x : BalSkip) → A.SkipFits x → SkipFits x
 skip-range BalSkip.Nothing f = tt
 skip-range BalSkip.NoHash f = tt
 skip-range (BalSkip.Rpc n) f = f
 skip-range (BalSkip.Decode n) f = f
 
-outcome-range : (o : CarryOutcome) → A.OutcomeFits o → OutcomeFits o
+pub outcome-range : (o : CarryOutcome) → A.OutcomeFits o → OutcomeFits o
 outcome-range (CarryOutcome.Carried n) f = f
 outcome-range (CarryOutcome.Cold link skip) f = skip-range skip f
 

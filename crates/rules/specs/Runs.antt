@@ -1,0 +1,33 @@
+-- Lists of lines: each line gets the state that the one before it left, and nothing else writes that state.
+use Prim.Native.Nat.{ℕ}
+use mathlib.Core.List.{List, [], _∷_}
+use mathlib.Core.Path.{_≡_}
+use Rattle.driver.specs.Turns.{lineText, turnOf}
+use Rattle.script_call.specs.Calls.{call}
+use Rattle.text.specs.Ascii.{ascii}
+use Rattle.driver.specs.declared.Turn.{Turn}
+use Rattle.head_driver.specs.declared.head_lifecycle.Driver.{Driver}
+
+-- an element of a list: a line, and the sheet buffer that stands beside it, of any length
+pub record Entry : Type 0 where
+  pub line : List ℕ
+  pub buffer : List ℕ
+
+-- what the line gets, as the contract of `take_line` has it
+abbrev pub turnAt : Driver → Entry → Turn
+turnAt d e = turnOf d (call (e .line)) (e .buffer)
+
+-- the driver after them
+unfoldable pub after : Driver → List Entry → Driver
+after d [] = d
+after d (e ∷ es) = after (turnAt d e .driver) es
+
+-- their answers, one by one, as whole lines
+unfoldable pub answers : Driver → List Entry → List (List ℕ)
+answers d [] = []
+answers d (e ∷ es) = lineText (turnAt d e .answer) ∷ answers (turnAt d e .driver) es
+
+-- only the sheet call is left out: no line is `(sheet)`. Lines refused 1 to 3 stand in the list as well.
+abbrev pub NoSheetCall : List Entry → Type 0
+NoSheetCall [] = Unit {0}
+NoSheetCall (e ∷ es) = (¬ (e .line ≡ ascii "(sheet)")) × NoSheetCall es
