@@ -1,5 +1,5 @@
 -- What `(sheet)` writes into 4,096 bytes or more, up to its last line feed, is the sheet's text, which ends with a line feed.
-use Prim.Native.Nat.{ℕ, suc}
+use Prim.Native.Nat.{ℕ, suc, _≤_}
 use mathlib.Core.List.{List, [], _∷_, _++_, append-assoc, append-nil}
 use mathlib.Core.Path.{_≡_, refl, ap, sym, _∙_}
 use lib.ListN.{drop, length, take}
@@ -20,6 +20,7 @@ use Rattle.head_anchor.specs.declared.storage_memo.ReadAnchor.{ReadAnchor}
 use Rattle.head_driver.specs.declared.head_lifecycle.Driver.{Driver}
 use Rattle.head_life.specs.declared.delta_snapshot.GenerationSlot.{GenerationSlot}
 use Rattle.head_life.specs.declared.head_lifecycle.HeadLifecycle.{HeadLifecycle}
+use Rattle.script_call.specs.declared.LineCall.{LineCall}
 use Rattle.script_value.specs.declared.page.Page.{Page}
 use Rattle.rules.specs.Sheets.{onto, sheetInto, toLastFeed, wroteOf}
 use Rattle.rules.specs.Statements.{SheetIsText}
@@ -89,7 +90,13 @@ taken : (s t : List ℕ) → take (length s) (s ++ t) ≡ s
 taken [] t = refl
 taken (b ∷ s) t = ap (λ (u : List ℕ). b ∷ u) (taken s t)
 
+wrote : (d : Driver) (buffer : List ℕ) → 4096 ≤ length buffer → wroteOf (turnOf d LineCall.Sheet buffer .answer) (sheetAfter d LineCall.Sheet buffer) ≡ sheetText d
+unfolding turnOf sheetAfter sheetAnswer written bufferAfter wroteOf
+wrote d buffer h = rw (le-ltb (length buffer) 4096 h) (taken (sheetText d) (drop (length (sheetText d)) buffer))
+
+pub sheet-wrote : (d : Driver) (buffer : List ℕ) → 4096 ≤ length buffer → toLastFeed (wroteOf (turnOf d LineCall.Sheet buffer .answer) (sheetAfter d LineCall.Sheet buffer)) ≡ sheetText d
+sheet-wrote d buffer h = rw (wrote d buffer h) (whole (sheetText d) (sheet-fed d))
+
 pub sheet-is-text : SheetIsText
-unfolding sheetInto turnOf sheetAfter sheetAnswer written bufferAfter wroteOf sheetCallText
-sheet-is-text d buffer h =
-    rw (sheet-back, le-ltb (length buffer) 4096 h, taken (sheetText d) (drop (length (sheetText d)) buffer)) (whole (sheetText d) (sheet-fed d))
+unfolding sheetInto sheetCallText
+sheet-is-text d buffer h = rw sheet-back (sheet-wrote d buffer h)
