@@ -21,8 +21,9 @@ use Rattle.head_driver.specs.declared.head_lifecycle.Answer.{Answer}
 use Rattle.head_driver.specs.declared.head_lifecycle.Driver.{Driver}
 use Rattle.head_step.specs.declared.head_lifecycle.Call.{Call}
 use Rattle.script_call.specs.declared.LineCall.{LineCall}
-use Rattle.rules.specs.Runs.{Entry, NoSheetCall, after, answers, turnAt}
+use Rattle.rules.specs.Runs.{Bytes, Entry, Further, after, answers, turnAt}
 use Rattle.rules.specs.Statements.{LinesKeep, SameAnswers}
+use Rattle.rules.proofs.Bytes.{bytes-call, one-line-call}
 use Rattle.rules.proofs.Fits.{answer-fits}
 use Rattle.rules.proofs.Ranges.{to-call, to-line}
 
@@ -82,8 +83,8 @@ pub lines-alike : (d₁ d₂ : Driver) → C.SameAnswers d₁ d₂ → SameAnswe
 unfolding answers sheetCallText
 lines-alike d₁ d₂ s [] n = refl
 lines-alike d₁ d₂ s (e ∷ es) n =
-    let z = turn-alike d₁ d₂ s (call (e .line)) (e .buffer) (call-range (e .line)) (no-sheet (e .line) (n .0)) in
-    ap₂ _∷_ (z .answer) (lines-alike (turnAt d₁ e .driver) (turnAt d₂ e .driver) (z .later) es (n .1))
+    let z = turn-alike d₁ d₂ s (call (e .line)) (e .buffer) (call-range (e .line)) (no-sheet (e .line) (n .3)) in
+    ap₂ _∷_ (z .answer) (lines-alike (turnAt d₁ e .driver) (turnAt d₂ e .driver) (z .later) es (n .4))
 
 -- ---- from lines to calls
 
@@ -98,12 +99,12 @@ not-sheet : (c : Call) → R.Writable c → ¬ (callText c ≡ sheetCallText)
 not-sheet c r e = made-sheet (sym (call-back c (to-line c r)) ∙ ap call e ∙ sheet-back)
 
 pub calls-alike : (d₁ d₂ : Driver) → Invariant d₁ → Invariant d₂ → SameAnswers d₁ d₂ → C.SameAnswers d₁ d₂
-unfolding R.answers answers turnOf made lineText sheetCallText
+unfolding R.answers answers turnOf made lineText sheetCallText Bytes
 calls-alike d₁ d₂ v₁ v₂ s [] r = refl
 calls-alike d₁ d₂ v₁ v₂ s (c ∷ cs) r =
     let q = call-back c (to-line c (r .0)) in
-    let h : (es : List Entry) → NoSheetCall es → (answerLine (step d₁ c .answer) ∷ answers (step d₁ c .driver) es) ≡ (answerLine (step d₂ c .answer) ∷ answers (step d₂ c .driver) es)
-    = λ es n. rw q at (s (lineOf c ∷ es) (not-sheet c (r .0), n)) in
+    let h : (es : List Entry) → Further es → (answerLine (step d₁ c .answer) ∷ answers (step d₁ c .driver) es) ≡ (answerLine (step d₂ c .answer) ∷ answers (step d₂ c .driver) es)
+    = λ es n. rw q at (s (lineOf c ∷ es) (bytes-call c, one-line-call c, tt, not-sheet c (r .0), n)) in
     ap₂ _∷_
     (answer-injective _ _ (answer-fits d₁ c (v₁ .fits) (r .0)) (answer-fits d₂ c (v₂ .fits) (r .0)) (ap (firstOr []) (h [] tt)))
     (calls-alike (step d₁ c .driver) (step d₂ c .driver) (kept d₁ c v₁ (r .0)) (kept d₂ c v₂ (r .0)) (λ es n. ap rest (h es n)) cs (r .1))

@@ -1,26 +1,25 @@
 -- The sheet rule over lines, and its halves.
 use mathlib.Core.List.{List}
-use mathlib.Core.Path.{_≡_, sym, _∙_}
+use mathlib.Core.Path.{sym, _∙_}
 use Rattle.alike.proofs.Kept.{holds-of-new}
 use Rattle.alike.proofs.Rule.{shows-no-more}
 use Rattle.alike.proofs.Shown.{shows-enough}
 use Rattle.alike.specs.Invariant.{Invariant}
 use Rattle.head_reads.specs.Calls.{new}
-use Rattle.script_sheet.specs.Sheets.{sheetText}
 use Rattle.sheet_back.proofs.Sheets.{equal-sheets}
 use Rattle.head_driver.specs.declared.head_lifecycle.Driver.{Driver}
 use Rattle.rules.specs.Runs.{Entry, after}
-use Rattle.rules.specs.Statements.{AnswersTellSheets, CountersBelow, SameAnswers, SheetRule, SheetsTellAnswers, TellingBelow}
+use Rattle.rules.specs.Statements.{AnswersTellSheets, CountersBelow, KeptAnswersTellSheets, KeptSheetsTellAnswers, SheetRule, SheetsTellAnswers, TellingBelow}
 use Rattle.rules.proofs.Feeds.{sheet-is-text}
 use Rattle.rules.proofs.Lines.{calls-alike, lines-alike, lines-keep}
 
 -- ---- of drivers that keep the invariant
 
-pub texts-tell : (d₁ d₂ : Driver) → Invariant d₁ → Invariant d₂ → sheetText d₁ ≡ sheetText d₂ → SameAnswers d₁ d₂
-texts-tell d₁ d₂ v₁ v₂ e = lines-alike d₁ d₂ (λ cs r. shows-enough d₁ d₂ v₁ v₂ (equal-sheets d₁ d₂ v₁ v₂ .0 e) cs)
+pub kept-sheets-tell-answers : KeptSheetsTellAnswers
+kept-sheets-tell-answers d₁ d₂ v₁ v₂ e = lines-alike d₁ d₂ (λ cs r. shows-enough d₁ d₂ v₁ v₂ (equal-sheets d₁ d₂ v₁ v₂ .0 e) cs)
 
-pub answers-tell : (d₁ d₂ : Driver) → Invariant d₁ → Invariant d₂ → TellingBelow d₁ → TellingBelow d₂ → SameAnswers d₁ d₂ → sheetText d₁ ≡ sheetText d₂
-answers-tell d₁ d₂ v₁ v₂ b₁ b₂ s =
+pub kept-answers-tell-sheets : KeptAnswersTellSheets
+kept-answers-tell-sheets d₁ d₂ v₁ v₂ b₁ b₂ s =
     equal-sheets d₁ d₂ v₁ v₂ .1
     (shows-no-more d₁ d₂ v₁ v₂
     (record { delivered-below = b₁ .delivered-below; epoch-below = b₁ .epoch-below })
@@ -36,13 +35,13 @@ pub sheets-tell-answers : SheetsTellAnswers
 sheets-tell-answers first second buffer₁ buffer₂ h₁ h₂ e =
     let d₁ = after new first in
     let d₂ = after new second in
-    texts-tell d₁ d₂ (brought first) (brought second) (sym (sheet-is-text d₁ buffer₁ h₁) ∙ e ∙ sheet-is-text d₂ buffer₂ h₂)
+    kept-sheets-tell-answers d₁ d₂ (brought first) (brought second) (sym (sheet-is-text d₁ buffer₁ h₁) ∙ e ∙ sheet-is-text d₂ buffer₂ h₂)
 
 pub answers-tell-sheets : AnswersTellSheets
 answers-tell-sheets first second buffer₁ buffer₂ h₁ h₂ b₁ b₂ s =
     let d₁ = after new first in
     let d₂ = after new second in
-    sheet-is-text d₁ buffer₁ h₁ ∙ answers-tell d₁ d₂ (brought first) (brought second) b₁ b₂ s ∙ sym (sheet-is-text d₂ buffer₂ h₂)
+    sheet-is-text d₁ buffer₁ h₁ ∙ kept-answers-tell-sheets d₁ d₂ (brought first) (brought second) b₁ b₂ s ∙ sym (sheet-is-text d₂ buffer₂ h₂)
 
 telling : {d : Driver} → CountersBelow d → TellingBelow d
 telling b = record { delivered-below = b .delivered; epoch-below = b .epoch }

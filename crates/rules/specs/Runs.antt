@@ -1,5 +1,5 @@
 -- Lists of lines: each line gets the state that the one before it left, and nothing else writes that state.
-use Prim.Native.Nat.{ℕ}
+use Prim.Native.Nat.{ℕ, _<_}
 use mathlib.Core.List.{List, [], _∷_}
 use mathlib.Core.Path.{_≡_}
 use Rattle.driver.specs.Turns.{lineText, turnOf}
@@ -8,7 +8,7 @@ use Rattle.text.specs.Ascii.{ascii}
 use Rattle.driver.specs.declared.Turn.{Turn}
 use Rattle.head_driver.specs.declared.head_lifecycle.Driver.{Driver}
 
--- an element of a list: a line, and the sheet buffer that stands beside it, of any length
+-- an element of a list: a line without its line feed, and the sheet buffer that stands beside it, of any length
 pub record Entry : Type 0 where
   pub line : List ℕ
   pub buffer : List ℕ
@@ -27,7 +27,18 @@ unfoldable pub answers : Driver → List Entry → List (List ℕ)
 answers d [] = []
 answers d (e ∷ es) = lineText (turnAt d e .answer) ∷ answers (turnAt d e .driver) es
 
--- only the sheet call is left out: no line is `(sheet)`. Lines refused 1 to 3 stand in the list as well.
-abbrev pub NoSheetCall : List Entry → Type 0
-NoSheetCall [] = Unit {0}
-NoSheetCall (e ∷ es) = (¬ (e .line ≡ ascii "(sheet)")) × NoSheetCall es
+-- ---- the further lists
+
+unfoldable pub Bytes : List ℕ → Type 0
+Bytes [] = Unit {0}
+Bytes (b ∷ s) = (b < 256) × Bytes s
+
+-- no byte is a line feed, which is 10
+unfoldable pub OneLine : List ℕ → Type 0
+OneLine [] = Unit {0}
+OneLine (b ∷ s) = (¬ (b ≡ 10)) × OneLine s
+
+-- lines of bytes, each with a buffer of bytes, and only the sheet call left out: no line is `(sheet)`. Lines refused 1 to 3 stand in the list as well.
+abbrev pub Further : List Entry → Type 0
+Further [] = Unit {0}
+Further (e ∷ es) = Bytes (e .line) × OneLine (e .line) × Bytes (e .buffer) × (¬ (e .line ≡ ascii "(sheet)")) × Further es

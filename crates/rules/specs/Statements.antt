@@ -1,4 +1,4 @@
--- What is proved: demand 3 over lines, and its halves.
+-- What is proved: demand 3 over lines, its halves, and what they rest on.
 use Prim.Native.Nat.{ℕ, _<_, _≤_}
 use mathlib.Core.List.{List}
 use mathlib.Core.Logic.{_↔_}
@@ -8,7 +8,7 @@ use Rattle.alike.specs.Invariant.{Invariant}
 use Rattle.head_reads.specs.Calls.{new}
 use Rattle.script_sheet.specs.Sheets.{sheetText}
 use Rattle.head_driver.specs.declared.head_lifecycle.Driver.{Driver}
-use Rattle.rules.specs.Runs.{Entry, NoSheetCall, after, answers}
+use Rattle.rules.specs.Runs.{Entry, Further, after, answers}
 use Rattle.rules.specs.Sheets.{sheetInto}
 
 -- ---- the terms
@@ -36,7 +36,7 @@ pub record TellingBelow (d : Driver) : Type 0 where
 
 -- for every list of further lines, refused ones included and only the sheet call left out, both drivers give the same answers, one by one
 abbrev pub SameAnswers : Driver → Driver → Type 0
-SameAnswers d₁ d₂ = (further : List Entry) → NoSheetCall further → answers d₁ further ≡ answers d₂ further
+SameAnswers d₁ d₂ = (lines : List Entry) → Further lines → answers d₁ lines ≡ answers d₂ lines
 
 -- ---- the statements
 
@@ -48,9 +48,19 @@ SheetIsText = (d : Driver) (buffer : List ℕ) → 4096 ≤ length buffer → sh
 abbrev pub LinesKeep : Type 0
 LinesKeep = (d : Driver) (es : List Entry) → Invariant d → Invariant (after d es)
 
--- Of two drivers, each brought from a new one by a list of its own, and their sheets in two buffers of 4,096 bytes or more:
+-- ---- of drivers that keep the invariant, whether lines brought them or not
 
--- equal sheets give equal answers. No counter is bounded.
+-- Equal sheets give equal answers. No counter is bounded.
+abbrev pub KeptSheetsTellAnswers : Type 0
+KeptSheetsTellAnswers = (d₁ d₂ : Driver) → Invariant d₁ → Invariant d₂ → sheetText d₁ ≡ sheetText d₂ → SameAnswers d₁ d₂
+
+-- Equal answers give equal sheets, where delivered and epoch stand below 2^64 - 1.
+abbrev pub KeptAnswersTellSheets : Type 0
+KeptAnswersTellSheets = (d₁ d₂ : Driver) → Invariant d₁ → Invariant d₂ → TellingBelow d₁ → TellingBelow d₂ → SameAnswers d₁ d₂ → sheetText d₁ ≡ sheetText d₂
+
+-- ---- of two drivers, each brought from a new one by a list of its own, and their sheets in two buffers of 4,096 bytes or more
+
+-- Equal sheets give equal answers. No counter is bounded.
 abbrev pub SheetsTellAnswers : Type 0
 SheetsTellAnswers = (first second : List Entry) (buffer₁ buffer₂ : List ℕ) → 4096 ≤ length buffer₁ → 4096 ≤ length buffer₂
     → sheetInto buffer₁ (after new first) ≡ sheetInto buffer₂ (after new second)

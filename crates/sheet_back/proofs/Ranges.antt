@@ -43,7 +43,7 @@ skip-range BalSkip.NoHash f = tt
 skip-range (BalSkip.Rpc n) f = f
 skip-range (BalSkip.Decode n) f = f
 
-pub outcome-range : (o : CarryOutcome) → A.OutcomeFits o → OutcomeFits o
+outcome-range : (o : CarryOutcome) → A.OutcomeFits o → OutcomeFits o
 outcome-range (CarryOutcome.Carried n) f = f
 outcome-range (CarryOutcome.Cold link skip) f = skip-range skip f
 
