@@ -38,7 +38,7 @@ unfoldable pub OneLine : List ℕ → Type 0
 OneLine [] = Unit {0}
 OneLine (b ∷ s) = (¬ (b ≡ 10)) × OneLine s
 
--- lines of bytes, each with a buffer of bytes, and only the sheet call left out: no line is `(sheet)`. Lines refused 1 to 3 stand in the list as well.
+-- lines of bytes, each with a buffer of bytes, and only the sheet call left out: no line is `(sheet)`. Lines that are refused, 1 and 3 too, stand in the list as well.
 abbrev pub Further : List Entry → Type 0
 Further [] = Unit {0}
 Further (e ∷ es) = Bytes (e .line) × OneLine (e .line) × Bytes (e .buffer) × (¬ (e .line ≡ ascii "(sheet)")) × Further es
