@@ -37,7 +37,7 @@ unfolding shownSuperseded maskBy
 superseded-range c previous AnchorSlot.Nothing f = tt
 superseded-range c previous (AnchorSlot.At a) f = if-fits (masked c previous a) a (anchor-range a f)
 
-skip-range : (x : BalSkip) → A.SkipFits x → SkipFits x
+pub skip-range : (x : BalSkip) → A.SkipFits x → SkipFits x
 skip-range BalSkip.Nothing f = tt
 skip-range BalSkip.NoHash f = tt
 skip-range (BalSkip.Rpc n) f = f

@@ -1,0 +1,2 @@
+// The edges E1 to E12 of document 01, one table with one claim over it.
+// Theorems only.

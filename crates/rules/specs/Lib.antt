@@ -1,0 +1,7 @@
+-- Demand 3 over lines: Runs and Sheets are what it speaks of, Statements what is proved. Demand 1: Refusals and Said are what it speaks of, TurnedAway what is proved.
+pub mod Runs
+pub mod Sheets
+pub mod Statements
+pub mod Refusals
+pub mod Said
+pub mod TurnedAway
