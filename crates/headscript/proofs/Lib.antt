@@ -1,0 +1,3 @@
+-- The steps of single functions.
+pub mod Fits
+pub mod Answering

@@ -1,0 +1,16 @@
+-- Where the reading of the input stands after what a read brought.
+use Prim.Native.Nat.{ℕ, _≤_, _<_}
+use mathlib.Core.Bool.{Bool, true}
+use mathlib.Core.List.{List}
+use mathlib.Core.Path.{_≡_}
+use lib.ListN.{length, take}
+use Rattle.script.specs.Feeds.{Reading, allTaken}
+
+-- what counts as taken was taken as `script` takes it
+pub record AnswersSome (s t : Reading) (input : List ℕ) (taken : ℕ) : Type 0 where
+  pub within : taken ≤ length input
+  pub stands : 0 < taken → t ≡ allTaken s (take taken input)
+
+-- unless a write failed, all of it was
+abbrev pub AnswersAll : Reading → Reading → List ℕ → Bool → Type 0
+AnswersAll s t input more = more ≡ true → t ≡ allTaken s input
