@@ -1,3 +1,2 @@
--- The steps of single functions.
-pub mod Fits
+-- The loop over what a read brought.
 pub mod Answering

@@ -10,10 +10,11 @@ use Rattle.alike.proofs.Kept.{holds-of-new}
 use Rattle.alike.specs.Invariant.{Invariant}
 use Rattle.hash.specs.Logic.{if}
 use Rattle.head_reads.specs.Calls.{new}
-use Rattle.script.specs.Scripts.{answered, leaves, lines, linesAfter, prints, script}
+use Rattle.script.specs.Scripts.{answered, lines, linesAfter, script}
 use Rattle.script_call.specs.Calls.{call}
 use Rattle.script_call.specs.Texts.{sheetCallText}
 use Rattle.script_call.proofs.Back.{sheet-back}
+use Rattle.script_line.specs.Prints.{leaves, prints}
 use Rattle.script_sheet.specs.Sheets.{sheetText}
 use Rattle.text.specs.Ascii.{ascii}
 use Rattle.head_driver.specs.declared.head_lifecycle.Driver.{Driver}

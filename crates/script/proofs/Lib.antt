@@ -1,6 +1,6 @@
--- For users: Cuttings, how an input may be cut. The others are the steps of single functions.
+-- For users: Cuttings, how an input may be cut; Fits, what was written lies within the buffer. The others are the steps of single functions.
 pub mod Cuttings
-pub mod Printing
+pub mod Fits
 pub mod Placing
 pub mod Ending
 pub mod Lines

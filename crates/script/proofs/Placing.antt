@@ -8,12 +8,13 @@ use mir.Syntax.{w64}
 use mir.Val.{Fits}
 use lib.Seq.{drop-drop, sets-eq, take-all, length-take-le}
 use Rattle.script_call.specs.Calls.{call}
+use Rattle.script_line.specs.Parts.{Prints, atFront}
+use Rattle.script_line.specs.Prints.{leaves, prints}
 use Rattle.text.specs.Writes.{Wrote}
 use Rattle.head_driver.specs.declared.head_lifecycle.Driver.{Driver}
-use Rattle.script.specs.Scripts.{leaves, prints}
-use Rattle.script.specs.Feeds.{AnswersHeld, Prints, atFront}
+use Rattle.script_line.specs.declared.Printed.{Printed}
+use Rattle.script.specs.Feeds.{AnswersHeld}
 use Rattle.script.specs.declared.Fed.{Fed}
-use Rattle.script.specs.declared.Printed.{Printed}
 
 module _ (out : List ℕ) (at : ℕ) (room : at + 4096 ≤ length out) where
   -- the part of a buffer from a place on is all that follows

@@ -7,17 +7,15 @@ use mathlib.Core.Path.{_≡_}
 use lib.Dec.{eqb, leb}
 use lib.ListN.{length, take, drop}
 use lib.Seq.{slice}
-use Rattle.driver.specs.Turns.{lineText}
 use Rattle.hash.specs.Logic.{if, both}
 use Rattle.pending.specs.Kept.{Part, part, keepByte, lineSoFar}
 use Rattle.script_call.specs.Calls.{call}
+use Rattle.script_line.specs.Parts.{Prints}
+use Rattle.script_line.specs.Prints.{leaves, prints}
 use Rattle.text.specs.Writes.{Wrote}
-use Rattle.driver.specs.declared.LineAnswer.{LineAnswer}
 use Rattle.head_driver.specs.declared.head_lifecycle.Driver.{Driver}
-use Rattle.script_value.specs.declared.buffer.Written.{Written}
-use Rattle.script.specs.Scripts.{leaves, prints}
 use Rattle.script.specs.declared.Fed.{Fed}
-use Rattle.script.specs.declared.Printed.{Printed}
+use Rattle.script_line.specs.declared.Printed.{Printed}
 
 -- where the reading of an input stands
 pub record Reading : Type 0 where
@@ -69,33 +67,7 @@ lastLeft d (b ∷ line) = leaves d (call (b ∷ line))
 unfoldable pub lastLeaves : Reading → Driver
 lastLeaves s = lastLeft (s .driver) (lineSoFar (s .kept))
 
--- ---- one line's answer in a buffer
-
--- what is written of an answer: a sheet stands in the buffer already
-unfoldable pub answerLength : LineAnswer → ℕ
-answerLength (LineAnswer.Said a) = length (lineText (LineAnswer.Said a))
-answerLength LineAnswer.NoCall = length (lineText LineAnswer.NoCall)
-answerLength LineAnswer.SheetTooShort = length (lineText LineAnswer.SheetTooShort)
-answerLength (LineAnswer.Sheet n) = n
-
-unfoldable pub bytesWritten : Written → ℕ
-bytesWritten Written.TooShort = 0
-bytesWritten (Written.Bytes n) = n
-
--- at the front of a buffer, with every byte after it kept
-unfoldable pub atFront : List ℕ → List ℕ → List ℕ
-atFront text buffer = text ++ drop (length text) buffer
-
--- what is promised of an answer that is put
-pub record PutsAnswer (answer : LineAnswer) (old new : List ℕ) (r : ℕ) : Type 0 where
-  pub bytes : new ≡ atFront (lineText answer) old
-  pub count : r ≡ answerLength answer
-
--- what is promised of a line that is answered into a buffer
-pub record Prints (text : List ℕ) (left : Driver) (old new : List ℕ) (r : Printed) : Type 0 where
-  pub driver : r .driver ≡ left
-  pub bytes : new ≡ atFront text old
-  pub count : r .written ≡ length text
+-- ---- what is held, answered
 
 -- what is promised of what is held, answered as a line from a place of a buffer on
 pub record AnswersHeld (fed : Fed) (pending old new : List ℕ) (r : Fed) : Type 0 where

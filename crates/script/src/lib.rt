@@ -2,26 +2,17 @@
 ghost use Prim.Native.Nat.{_+_, _≤_};
 ghost use mathlib.Core.Path.{_≡_};
 ghost use lib.ListN.{length};
-ghost use Rattle.script_call.specs.Calls.{call};
-ghost use Rattle.script.specs.Scripts.{leaves, prints};
-ghost use Rattle.script.specs.Feeds.{AnswersHeld, FeedsLine, Finishes, Prints, PutsAnswer, TakesSome, bytesWritten, reading, usable};
-use driver::LineAnswer;
-use driver::put_line;
-use driver::take_line;
+ghost use Rattle.script.specs.Feeds.{AnswersHeld, FeedsLine, Finishes, TakesSome, reading, usable};
 use head_driver::head_lifecycle::Driver;
 use pending::keep;
-use script_value::buffer::Written;
+use script_line::Printed;
+use script_line::print_line;
 
 // Where the reading of an input stands: the driver, how many bytes of a line are held, and how many bytes of the input were taken and of the output written.
 pub struct Fed {
     pub driver: Driver,
     pub held: usize,
     pub taken: usize,
-    pub written: usize,
-}
-
-pub struct Printed {
-    pub driver: Driver,
     pub written: usize,
 }
 
@@ -33,40 +24,6 @@ pub(crate) fn usable(pending: usize, held: usize, out: usize) -> bool
     } else {
         false
     }
-}
-
-pub(crate) fn bytes_written(written: Written) -> usize
-    ensures { λ r. ⌜ r ≡ bytesWritten written ⌝ }
-{
-    match written {
-        Written::TooShort => 0,
-        Written::Bytes(n) => n,
-    }
-}
-
-// A sheet stands in the buffer already.
-pub(crate) fn put_answer(out: &mut [u8], answer: LineAnswer) -> usize
-    requires { ⌜ 512 ≤ length (now out) ⌝ }
-    ensures { λ r. ⌜ PutsAnswer answer (now (out .entry)) (now (out .exit)) r ⌝ }
-{
-    match answer {
-        LineAnswer::Said(said) => bytes_written(put_line(out, LineAnswer::Said(said))),
-        LineAnswer::NoCall => bytes_written(put_line(out, LineAnswer::NoCall)),
-        LineAnswer::SheetTooShort => bytes_written(put_line(out, LineAnswer::SheetTooShort)),
-        LineAnswer::Sheet(n) => n,
-    }
-}
-
-// Answers a line at the front of a buffer, which serves as the sheet's buffer too.
-pub(crate) fn print_line(d: Driver, line: &[u8], out: &mut [u8]) -> Printed
-    requires { ⌜ 4096 ≤ length (now out) ⌝ }
-    ensures { λ r. ⌜ Prints (prints d (call (now (line .entry)))) (leaves d (call (now (line .entry)))) (now (out .entry)) (now (out .exit)) r ⌝ }
-{
-    let turn = take_line(d, line, out);
-    let driver = turn.driver;
-    let answer = turn.answer;
-    let written = put_answer(out, answer);
-    Printed { driver, written }
 }
 
 // Answers what is held as a line; nothing of the next line is held.

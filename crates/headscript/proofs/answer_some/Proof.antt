@@ -1,7 +1,7 @@
 -- The answers are written, or nothing counts as taken.
 use borrow.Author.Needs.{needs}
+use Rattle.script.proofs.Fits.{fed-count, fed-fits}
 use Rattle.headscript.proofs.Answering.{not-written, written}
-use Rattle.headscript.proofs.Fits.{fed-count, fed-fits}
 use Rattle.headscript.proofs.answer_some.Statement.{statement}
 use Rattle.headscript.proofs.answer_some.Tie as tie
 

@@ -1,6 +1,6 @@
 -- The last answer is written.
 use borrow.Author.Needs.{needs}
-use Rattle.headscript.proofs.Fits.{printed-count, printed-fits}
+use Rattle.script_line.proofs.Fits.{printed-count, printed-fits}
 use Rattle.headscript.proofs.end.Statement.{statement}
 use Rattle.headscript.proofs.end.Tie as tie
 

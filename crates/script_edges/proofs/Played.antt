@@ -1,14 +1,15 @@
--- What was written lies within the buffer.
-use Prim.Native.Nat.{ℕ, _+_, _≤_}
+-- One byte of a script.
+use Prim.Native.Nat.{ℕ, _+_, _-_, _≤_, _<_}
 use native.Mathlib.Omega.{arith}
-use mathlib.Core.List.{List}
+use mathlib.Core.List.{List, [], _∷_}
 use mathlib.Core.Path.{_≡_, refl, ap, sym, _∙_}
-use lib.ListN.{length, take, drop, length-append}
-use lib.Seq.{length-sets, length-take-le}
+use lib.ListN.{length, take, drop, getD, length-append}
+use lib.Seq.{drop-cons, length-sets, length-take-le}
 use Rattle.head_driver.specs.declared.head_lifecycle.Driver.{Driver}
-use Rattle.script.specs.Feeds.{Prints, Reading, TakesSome, atFront}
+use Rattle.script.specs.Feeds.{Prints, Reading, TakesSome, allTaken, atFront}
 use Rattle.script.specs.declared.Fed.{Fed}
 use Rattle.script.specs.declared.Printed.{Printed}
+use Rattle.script_edges.specs.Plays.{TakesByte}
 
 pub fed-fits : (s t : Reading) (input old new : List ℕ) (r : Fed) → TakesSome s t input old new r → r .written ≤ length new
 fed-fits s t input old new r takes = rw (takes .feeds .writes .bytes, length-sets) (takes .fits)

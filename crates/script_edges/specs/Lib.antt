@@ -1,0 +1,2 @@
+-- What the program does to a driver.
+pub mod Plays

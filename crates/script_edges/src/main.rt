@@ -1,0 +1,123 @@
+// Plays scripts parted by `%` from its standard input, each from a new driver and byte by byte, so that every line comes in parts, and writes a line `%`
+// after each. Then `(sheet)` into buffers of 4,095 and of 4,096 bytes. The expected output is written from document 01.
+ghost use Prim.Native.Nat.{_<_};
+ghost use mathlib.Core.Path.{_≡_};
+ghost use lib.ListN.{getD, length};
+ghost use Rattle.script.specs.Feeds.{reading};
+ghost use Rattle.script_edges.specs.Plays.{TakesByte, afresh, sheetLength};
+use driver::LineAnswer;
+use driver::put_line;
+use driver::take_line;
+use head_driver::head_lifecycle::Driver;
+use head_reads::head_lifecycle::new;
+use libc::STDIN_FILENO;
+use libc::STDOUT_FILENO;
+use script::Fed;
+use script::feed;
+use script::finish;
+use script_value::buffer::Written;
+
+fn afresh() -> Fed
+    ensures { λ r. ⌜ r ≡ afresh ⌝ }
+{
+    Fed {
+        driver: new(),
+        held: 0,
+        taken: 0,
+        written: 0,
+    }
+}
+
+// The answers of one byte: none, or those of the line that it ends.
+fn play_byte(d: Driver, pending: &mut [u8], held: usize, input: &[u8], at: usize) -> Fed
+    requires { ⌜ at < length (now input) ⌝ }
+    ensures { λ r. ⌜ TakesByte (reading d (now (pending .entry)) held) (reading (r .driver) (now (pending .exit)) (r .held)) (getD (now (input .entry)) at 0) (r .taken) ⌝ }
+{
+    let mut out = io::buffer();
+    let end = at + 1;
+    let fed = feed(d, pending, held, &input[at..end], &mut out);
+    let n = fed.written;
+    io::write_all(STDOUT_FILENO, &out[..n]);
+    fed
+}
+
+// The end of a script: a last line without its line feed is answered, and the next script begins.
+fn end_script(d: Driver, pending: &mut [u8], held: usize) -> Fed
+    ensures { λ r. ⌜ r ≡ afresh ⌝ }
+{
+    let mut out = io::buffer();
+    let printed = finish(d, pending, held, &mut out);
+    let n = printed.written;
+    io::write_all(STDOUT_FILENO, &out[..n]);
+    io::write_all(STDOUT_FILENO, b"%\n");
+    afresh()
+}
+
+fn next(fed: Fed, pending: &mut [u8], input: &[u8], at: usize) -> Fed
+    requires { ⌜ at < length (now input) ⌝ }
+{
+    if input[at] == b'%' {
+        end_script(fed.driver, pending, fed.held)
+    } else {
+        play_byte(fed.driver, pending, fed.held, input, at)
+    }
+}
+
+fn play(input: &[u8]) {
+    let mut pending = [0u8; 513];
+    let mut fed = afresh();
+    let mut i = 0;
+    while i < input.len() {
+        fed = next(fed, &mut pending, input, i);
+        i += 1;
+    }
+}
+
+// The first n bytes of a buffer; nothing where it has fewer.
+fn show(buf: &[u8], n: usize) -> bool {
+    if n <= buf.len() {
+        io::write_all(STDOUT_FILENO, &buf[..n])
+    } else {
+        false
+    }
+}
+
+fn show_line(answer: LineAnswer) -> bool {
+    let mut out = io::buffer();
+    match put_line(&mut out, answer) {
+        Written::TooShort => false,
+        Written::Bytes(n) => show(&out, n),
+    }
+}
+
+fn sheet_length(answer: LineAnswer) -> usize
+    ensures { λ r. ⌜ r ≡ sheetLength answer ⌝ }
+{
+    match answer {
+        LineAnswer::Said(_) => 0,
+        LineAnswer::NoCall => 0,
+        LineAnswer::SheetTooShort => 0,
+        LineAnswer::Sheet(n) => n,
+    }
+}
+
+// `(sheet)` of a new driver into a lent buffer: the sheet that stands there, or the refusal's line.
+fn show_sheet(buf: &mut [u8]) -> bool {
+    let turn = take_line(new(), b"(sheet)", buf);
+    let answer = turn.answer;
+    if show_line(answer) {
+        show(buf, sheet_length(answer))
+    } else {
+        false
+    }
+}
+
+fn main() {
+    let mut input = io::large_buffer();
+    let n = io::read_full(STDIN_FILENO, &mut input);
+    play(&input[..n]);
+    let mut short = [0u8; 4095];
+    show_sheet(&mut short);
+    let mut enough = [0u8; 4096];
+    show_sheet(&mut enough);
+}

@@ -1,0 +1,59 @@
+-- One line's answer at the front of a buffer.
+use Prim.Native.Nat.{ℕ, zero, suc, _≤_}
+use native.Mathlib.Omega.{arith}
+use mathlib.Core.List.{List}
+use mathlib.Core.Path.{_≡_, refl, ap, sym, _∙_}
+use lib.ListN.{length}
+use borrow.Author.Tests.{le-ltb, lt-ltb}
+use Rattle.driver.specs.Turns.{Takes, lineText, made, sheetAfter, sheetAnswer, turnOf}
+use Rattle.script_call.specs.Calls.{call}
+use Rattle.script_sheet.specs.Sheets.{sheetText}
+use Rattle.script_value.specs.Buffers.{AtFront, bufferAfter, written}
+use Rattle.driver.specs.declared.LineAnswer.{LineAnswer}
+use Rattle.driver.specs.declared.Turn.{Turn}
+use Rattle.head_driver.specs.declared.head_lifecycle.Driver.{Driver}
+use Rattle.script_call.specs.declared.LineCall.{LineCall}
+use Rattle.script_value.specs.declared.buffer.Written.{Written}
+use Rattle.script_line.specs.Prints.{leaves, prints}
+use Rattle.script_line.specs.declared.Printed.{Printed}
+use Rattle.script_line.specs.Parts.{Prints, PutsAnswer, PutsTurn, atFront, bytesWritten, longer, sheetLength}
+
+-- an answer's line is put, and counted
+pub puts-answer : (a : LineAnswer) (old new : List ℕ) (w : Written) (n m r : ℕ) → 512 ≤ length old → AtFront 512 old new (lineText a) w
+  → n ≡ bytesWritten w → m ≡ sheetLength a → r ≡ longer n m → PutsAnswer a old new r
+unfolding written bufferAfter bytesWritten atFront
+puts-answer a old new w n m r room front told long e =
+    let k : n ≡ length (lineText a) = (told ∙ ap bytesWritten (front .result) ∙ rw (le-ltb (length old) 512 room)) in
+    record { bytes = front .bytes ∙ rw (le-ltb (length old) 512 room); count = rw (k, long) at e }
+
+-- one of the two lengths is 0
+longer-none : (n : ℕ) → longer n 0 ≡ n
+unfolding longer
+longer-none n = rw (le-ltb n 0 (omega arith))
+
+none-longer : (n : ℕ) → longer 0 n ≡ n
+unfolding longer
+none-longer zero = refl
+none-longer (suc n) = rw (lt-ltb 0 (suc n) (omega arith))
+
+-- what a line prints stands at the front, whether the sheet was put or the answer's line
+module _ (d : Driver) (old : List ℕ) (room : 4096 ≤ length old) where
+  sheet-put : (new : List ℕ) (n : ℕ) → PutsAnswer (sheetAnswer (written 4096 old (sheetText d))) (bufferAfter 4096 old (sheetText d)) new n
+    → Prints (sheetText d) d old new (record { driver = d; written = n })
+  unfolding written bufferAfter sheetAnswer sheetLength lineText atFront
+  sheet-put new n p =
+      let q = rw (le-ltb (length old) 4096 room) at p in
+      record { driver = refl; bytes = q .bytes; count = q .count ∙ none-longer (length (sheetText d)) }
+
+  by-call : (c : LineCall) (new : List ℕ) (n : ℕ) → PutsAnswer (turnOf d c old .answer) (sheetAfter d c old) new n
+    → Prints (prints d c) (leaves d c) old new (record { driver = turnOf d c old .driver; written = n })
+  unfolding prints leaves turnOf sheetAfter made sheetLength
+  by-call LineCall.NoCall new n p = record { driver = refl; bytes = p .bytes; count = p .count ∙ longer-none _ }
+  by-call LineCall.Sheet new n p = sheet-put new n p
+  by-call (LineCall.Make c) new n p = record { driver = refl; bytes = p .bytes; count = p .count ∙ longer-none _ }
+
+  pub prints-line : (line mid new : List ℕ) (t : Turn) (r : Printed) → Takes d line old mid t → PutsTurn t mid new r
+    → Prints (prints d (call line)) (leaves d (call line)) old new r
+  prints-line line mid new t r takes p =
+      let q = by-call (call line) new (r .written) (rw (takes .turned, takes .sheet) at (p .puts)) in
+      record { driver = p .driver ∙ ap (λ (t : Turn). t .driver) (takes .turned) ∙ q .driver; bytes = q .bytes; count = q .count }

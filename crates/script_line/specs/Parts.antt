@@ -1,0 +1,47 @@
+-- A line's answer at the front of a buffer.
+use Prim.Native.Nat.{ℕ}
+use mathlib.Core.List.{List, _++_}
+use mathlib.Core.Path.{_≡_}
+use lib.Dec.{ltb}
+use lib.ListN.{length, drop}
+use Rattle.driver.specs.Turns.{lineText}
+use Rattle.hash.specs.Logic.{if}
+use Rattle.driver.specs.declared.LineAnswer.{LineAnswer}
+use Rattle.driver.specs.declared.Turn.{Turn}
+use Rattle.head_driver.specs.declared.head_lifecycle.Driver.{Driver}
+use Rattle.script_value.specs.declared.buffer.Written.{Written}
+use Rattle.script_line.specs.declared.Printed.{Printed}
+
+-- the bytes of a sheet that stands in the buffer
+unfoldable pub sheetLength : LineAnswer → ℕ
+sheetLength (LineAnswer.Said a) = 0
+sheetLength LineAnswer.NoCall = 0
+sheetLength LineAnswer.SheetTooShort = 0
+sheetLength (LineAnswer.Sheet n) = n
+
+unfoldable pub bytesWritten : Written → ℕ
+bytesWritten Written.TooShort = 0
+bytesWritten (Written.Bytes n) = n
+
+unfoldable pub longer : ℕ → ℕ → ℕ
+longer a b = if (ltb a b) b a
+
+-- a text at the front of a buffer, with every byte after it kept
+unfoldable pub atFront : List ℕ → List ℕ → List ℕ
+atFront text buffer = text ++ drop (length text) buffer
+
+-- what is promised of an answer that is put: the buffer as it was and as it is, and how many of its bytes are the answer
+pub record PutsAnswer (answer : LineAnswer) (old new : List ℕ) (r : ℕ) : Type 0 where
+  pub bytes : new ≡ atFront (lineText answer) old
+  pub count : r ≡ longer (length (lineText answer)) (sheetLength answer)
+
+-- what is promised of a turn whose answer is put
+pub record PutsTurn (turn : Turn) (old new : List ℕ) (r : Printed) : Type 0 where
+  pub driver : r .driver ≡ turn .driver
+  pub puts : PutsAnswer (turn .answer) old new (r .written)
+
+-- what is promised of a line that is answered into a buffer
+pub record Prints (text : List ℕ) (left : Driver) (old new : List ℕ) (r : Printed) : Type 0 where
+  pub driver : r .driver ≡ left
+  pub bytes : new ≡ atFront text old
+  pub count : r .written ≡ length text

@@ -1,0 +1,74 @@
+// One line's answer as it is printed: its answer's line, or the sheet. Knows nothing of where lines come from.
+ghost use Prim.Native.Nat.{_≤_};
+ghost use mathlib.Core.Path.{_≡_};
+ghost use lib.ListN.{length};
+ghost use Rattle.script_call.specs.Calls.{call};
+ghost use Rattle.script_line.specs.Prints.{leaves, prints};
+ghost use Rattle.script_line.specs.Parts.{Prints, PutsAnswer, PutsTurn, bytesWritten, longer, sheetLength};
+use driver::LineAnswer;
+use driver::Turn;
+use driver::put_line;
+use driver::take_line;
+use head_driver::head_lifecycle::Driver;
+use script_value::buffer::Written;
+
+pub struct Printed {
+    pub driver: Driver,
+    pub written: usize,
+}
+
+// The bytes of a sheet that stands in the caller's buffer.
+pub fn sheet_length(answer: LineAnswer) -> usize
+    ensures { λ r. ⌜ r ≡ sheetLength answer ⌝ }
+{
+    match answer {
+        LineAnswer::Said(_) => 0,
+        LineAnswer::NoCall => 0,
+        LineAnswer::SheetTooShort => 0,
+        LineAnswer::Sheet(n) => n,
+    }
+}
+
+pub(crate) fn bytes_written(written: Written) -> usize
+    ensures { λ r. ⌜ r ≡ bytesWritten written ⌝ }
+{
+    match written {
+        Written::TooShort => 0,
+        Written::Bytes(n) => n,
+    }
+}
+
+pub(crate) fn longer(a: usize, b: usize) -> usize
+    ensures { λ r. ⌜ r ≡ longer a b ⌝ }
+{
+    if a < b { b } else { a }
+}
+
+// A sheet stands in the buffer already and has no answer line, so one of the two lengths is 0.
+pub(crate) fn put_answer(out: &mut [u8], answer: LineAnswer) -> usize
+    requires { ⌜ 512 ≤ length (now out) ⌝ }
+    ensures { λ r. ⌜ PutsAnswer answer (now (out .entry)) (now (out .exit)) r ⌝ }
+{
+    let line = bytes_written(put_line(out, answer));
+    longer(line, sheet_length(answer))
+}
+
+pub(crate) fn put_turn(turn: Turn, out: &mut [u8]) -> Printed
+    requires { ⌜ 512 ≤ length (now out) ⌝ }
+    ensures { λ r. ⌜ PutsTurn turn (now (out .entry)) (now (out .exit)) r ⌝ }
+{
+    let driver = turn.driver;
+    let answer = turn.answer;
+    Printed {
+        driver,
+        written: put_answer(out, answer),
+    }
+}
+
+// Answers a line at the front of a buffer, which serves as the sheet's buffer too.
+pub fn print_line(d: Driver, line: &[u8], out: &mut [u8]) -> Printed
+    requires { ⌜ 4096 ≤ length (now out) ⌝ }
+    ensures { λ r. ⌜ Prints (prints d (call (now (line .entry)))) (leaves d (call (now (line .entry)))) (now (out .entry)) (now (out .exit)) r ⌝ }
+{
+    put_turn(take_line(d, line, out), out)
+}
