@@ -2,27 +2,22 @@
 use Prim.Native.Nat.{ℕ, _+_, _-_, _≤_, _<_}
 use native.Mathlib.Omega.{arith}
 use mathlib.Core.List.{List, [], _∷_}
-use mathlib.Core.Path.{_≡_, refl, ap, sym, _∙_}
-use lib.ListN.{length, take, drop, getD, length-append}
-use lib.Seq.{drop-cons, length-sets, length-take-le}
-use Rattle.head_driver.specs.declared.head_lifecycle.Driver.{Driver}
-use Rattle.script.specs.Feeds.{Prints, Reading, TakesSome, allTaken, atFront}
+use mathlib.Core.Path.{_≡_, ap, _∙_}
+use lib.ListN.{length, take, drop, getD}
+use lib.Seq.{drop-cons}
+use Rattle.script.specs.Feeds.{Reading, TakesSome, allTaken}
 use Rattle.script.specs.declared.Fed.{Fed}
-use Rattle.script.specs.declared.Printed.{Printed}
 use Rattle.script_edges.specs.Plays.{TakesByte}
 
-pub fed-fits : (s t : Reading) (input old new : List ℕ) (r : Fed) → TakesSome s t input old new r → r .written ≤ length new
-fed-fits s t input old new r takes = rw (takes .feeds .writes .bytes, length-sets) (takes .fits)
+one : (at : ℕ) (l : List ℕ) → at < length l → take (at + 1 - at) (drop at l) ≡ getD l at 0 ∷ []
+one at l h = let e : at + 1 - at ≡ 1 = omega arith in rw (e, drop-cons l at 0 h)
 
-pub fed-count : (s t : Reading) (input old new : List ℕ) (r : Fed) → TakesSome s t input old new r → r .written ≡ length (take (r .written) new)
-fed-count s t input old new r takes = sym (length-take-le (r .written) new (fed-fits s t input old new r takes))
+is-one : (n : ℕ) → 0 < n → n ≤ 1 → n ≡ 1
+is-one n h k = omega arith
 
-pub printed-fits : (text : List ℕ) (left : Driver) (old new : List ℕ) (r : Printed) → Prints text left old new r → r .written ≤ length new
-unfolding atFront
-printed-fits text left old new r prints =
-    let e : length new ≡ length text + length (drop (length text) old) = (ap length (prints .bytes) ∙ length-append text (drop (length text) old)) in
-    let n = prints .count in
-    omega arith
-
-pub printed-count : (text : List ℕ) (left : Driver) (old new : List ℕ) (r : Printed) → Prints text left old new r → r .written ≡ length (take (r .written) new)
-printed-count text left old new r prints = sym (length-take-le (r .written) new (printed-fits text left old new r prints))
+pub takes-byte : (s t : Reading) (input old new : List ℕ) (at : ℕ) (r : Fed) → at < length input → TakesSome s t (take (at + 1 - at) (drop at input)) old new r
+  → TakesByte s t (getD input at 0) (r .taken)
+takes-byte s t input old new at r h takes =
+    let q = rw (one at input h) at takes in
+    let w : r .taken ≤ 1 = q .within in
+    record { within = w; stands = λ k. q .feeds .stands ∙ ap (λ (n : ℕ). allTaken s (take n (getD input at 0 ∷ []))) (is-one (r .taken) k w) }

@@ -4,7 +4,7 @@ ghost use Prim.Native.Nat.{_<_};
 ghost use mathlib.Core.Path.{_≡_};
 ghost use lib.ListN.{getD, length};
 ghost use Rattle.script.specs.Feeds.{reading};
-ghost use Rattle.script_edges.specs.Plays.{TakesByte, afresh, sheetLength};
+ghost use Rattle.script_edges.specs.Plays.{TakesByte, afresh};
 use driver::LineAnswer;
 use driver::put_line;
 use driver::take_line;
@@ -15,6 +15,7 @@ use libc::STDOUT_FILENO;
 use script::Fed;
 use script::feed;
 use script::finish;
+use script_line::sheet_length;
 use script_value::buffer::Written;
 
 fn afresh() -> Fed
@@ -87,17 +88,6 @@ fn show_line(answer: LineAnswer) -> bool {
     match put_line(&mut out, answer) {
         Written::TooShort => false,
         Written::Bytes(n) => show(&out, n),
-    }
-}
-
-fn sheet_length(answer: LineAnswer) -> usize
-    ensures { λ r. ⌜ r ≡ sheetLength answer ⌝ }
-{
-    match answer {
-        LineAnswer::Said(_) => 0,
-        LineAnswer::NoCall => 0,
-        LineAnswer::SheetTooShort => 0,
-        LineAnswer::Sheet(n) => n,
     }
 }
 
