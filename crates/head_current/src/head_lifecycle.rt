@@ -131,6 +131,15 @@ impl UnsettledHead {
         }
     }
 
+    pub(crate) fn settling_epoch(self, epoch: Epoch) -> Epoch
+        ensures { λ r. ⌜ r ≡ settlingEpoch (CurrentHead.Unclaimed self) epoch ⌝ }
+    {
+        if self.abandoned() {
+            return epoch.next();
+        }
+        epoch
+    }
+
     pub(crate) fn claimed(self, epoch: Epoch) -> CurrentHead
         ensures { λ r. ⌜ r ≡ claimedHead (CurrentHead.Unclaimed self) epoch ⌝ }
     {
@@ -150,11 +159,23 @@ impl UnsettledHead {
         ensures { λ r. ⌜ r ≡ settledHead (CurrentHead.Unclaimed self) epoch report ⌝ }
     {
         if self.abandoned() {
-            settle_with(self.delivery, report, ClaimAttempt::settled(epoch))
-        } else {
-            settle_open(self.delivery, report, self.attempt)
+            return settle_with(self.delivery, report, ClaimAttempt::settled(epoch));
         }
+        settle_open(self.delivery, report, self.attempt)
     }
+}
+
+pub(crate) fn held(delivery: HeadDelivery) -> DeliverySlot
+    ensures { λ r. ⌜ r ≡ DeliverySlot.Held delivery ⌝ }
+{
+    DeliverySlot::Held(delivery)
+}
+
+// The end that an attempt has published.
+pub(crate) fn end_of(attempt: ClaimAttempt) -> HeadCompletion
+    ensures { λ r. ⌜ r ≡ attempt .end ⌝ }
+{
+    attempt.end
 }
 
 pub(crate) fn settle_with(
@@ -187,19 +208,10 @@ impl CurrentHead {
         ensures { λ r. ⌜ r ≡ delivery self ⌝ }
     {
         match self {
-            CurrentHead::Absent => DeliverySlot::Nothing,
-            CurrentHead::Unclaimed(u) => {
-                let held = u.delivery;
-                DeliverySlot::Held(held)
-            }
-            CurrentHead::Preparing(u) => {
-                let held = u.delivery;
-                DeliverySlot::Held(held)
-            }
-            CurrentHead::Settled(s) => {
-                let held = s.delivery;
-                DeliverySlot::Held(held)
-            }
+            CurrentHead::Absent => return DeliverySlot::Nothing,
+            CurrentHead::Unclaimed(u) => return held(u.delivery),
+            CurrentHead::Preparing(u) => return held(u.delivery),
+            CurrentHead::Settled(s) => return held(s.delivery),
         }
     }
 
@@ -219,8 +231,8 @@ impl CurrentHead {
         ensures { λ r. ⌜ r ≡ repeats (delivery self) anchor «parent_hash» ⌝ }
     {
         match self.delivery() {
-            DeliverySlot::Nothing => Redelivery::New,
-            DeliverySlot::Held(held) => held.repeated_by(anchor, parent_hash),
+            DeliverySlot::Nothing => return Redelivery::New,
+            DeliverySlot::Held(held) => return held.repeated_by(anchor, parent_hash),
         }
     }
 
@@ -229,19 +241,10 @@ impl CurrentHead {
         ensures { λ r. ⌜ r ≡ published self ⌝ }
     {
         match self {
-            CurrentHead::Absent => HeadCompletion::Open,
-            CurrentHead::Unclaimed(u) => {
-                let attempt = u.attempt;
-                attempt.end
-            }
-            CurrentHead::Preparing(u) => {
-                let attempt = u.attempt;
-                attempt.end
-            }
-            CurrentHead::Settled(s) => {
-                let attempt = s.attempt;
-                attempt.end
-            }
+            CurrentHead::Absent => return HeadCompletion::Open,
+            CurrentHead::Unclaimed(u) => return end_of(u.attempt),
+            CurrentHead::Preparing(u) => return end_of(u.attempt),
+            CurrentHead::Settled(s) => return end_of(s.attempt),
         }
     }
 
@@ -250,10 +253,10 @@ impl CurrentHead {
         ensures { λ r. ⌜ r ≡ unsettled self ⌝ }
     {
         match self {
-            CurrentHead::Absent => false,
-            CurrentHead::Unclaimed(_) => true,
-            CurrentHead::Preparing(_) => true,
-            CurrentHead::Settled(_) => false,
+            CurrentHead::Absent => return false,
+            CurrentHead::Unclaimed(_) => return true,
+            CurrentHead::Preparing(_) => return true,
+            CurrentHead::Settled(_) => return false,
         }
     }
 
@@ -261,10 +264,10 @@ impl CurrentHead {
         ensures { λ r. ⌜ r ≡ preparingAt self anchor ⌝ }
     {
         match self {
-            CurrentHead::Absent => false,
-            CurrentHead::Unclaimed(_) => false,
-            CurrentHead::Preparing(u) => same_anchor(u.delivery.anchor, anchor),
-            CurrentHead::Settled(_) => false,
+            CurrentHead::Absent => return false,
+            CurrentHead::Unclaimed(_) => return false,
+            CurrentHead::Preparing(u) => return same_anchor(u.delivery.anchor, anchor),
+            CurrentHead::Settled(_) => return false,
         }
     }
 
@@ -272,10 +275,10 @@ impl CurrentHead {
         ensures { λ r. ⌜ r ≡ lastReport self ⌝ }
     {
         match self {
-            CurrentHead::Absent => LastReport::Nothing,
-            CurrentHead::Unclaimed(_) => LastReport::Nothing,
-            CurrentHead::Preparing(_) => LastReport::Nothing,
-            CurrentHead::Settled(s) => s.report,
+            CurrentHead::Absent => return LastReport::Nothing,
+            CurrentHead::Unclaimed(_) => return LastReport::Nothing,
+            CurrentHead::Preparing(_) => return LastReport::Nothing,
+            CurrentHead::Settled(s) => return s.report,
         }
     }
 
@@ -283,10 +286,10 @@ impl CurrentHead {
         ensures { λ r. ⌜ r ≡ claimedHead self epoch ⌝ }
     {
         match self {
-            CurrentHead::Absent => self,
-            CurrentHead::Unclaimed(u) => u.claimed(epoch),
-            CurrentHead::Preparing(_) => self,
-            CurrentHead::Settled(_) => self,
+            CurrentHead::Absent => return self,
+            CurrentHead::Unclaimed(u) => return u.claimed(epoch),
+            CurrentHead::Preparing(_) => return self,
+            CurrentHead::Settled(_) => return self,
         }
     }
 
@@ -294,10 +297,10 @@ impl CurrentHead {
         ensures { λ r. ⌜ r ≡ ownedBy self claim ⌝ }
     {
         match self {
-            CurrentHead::Absent => false,
-            CurrentHead::Unclaimed(_) => false,
-            CurrentHead::Preparing(u) => u.owned_by(claim),
-            CurrentHead::Settled(_) => false,
+            CurrentHead::Absent => return false,
+            CurrentHead::Unclaimed(_) => return false,
+            CurrentHead::Preparing(u) => return u.owned_by(claim),
+            CurrentHead::Settled(_) => return false,
         }
     }
 
@@ -306,10 +309,10 @@ impl CurrentHead {
         ensures { λ r. ⌜ r ≡ releasedHead self ⌝ }
     {
         match self {
-            CurrentHead::Absent => self,
-            CurrentHead::Unclaimed(_) => self,
-            CurrentHead::Preparing(u) => u.released(),
-            CurrentHead::Settled(_) => self,
+            CurrentHead::Absent => return self,
+            CurrentHead::Unclaimed(_) => return self,
+            CurrentHead::Preparing(u) => return u.released(),
+            CurrentHead::Settled(_) => return self,
         }
     }
 
@@ -318,10 +321,10 @@ impl CurrentHead {
         ensures { λ r. ⌜ r ≡ settlingEpoch self epoch ⌝ }
     {
         match self {
-            CurrentHead::Absent => epoch,
-            CurrentHead::Unclaimed(u) => { if u.abandoned() { epoch.next() } else { epoch } }
-            CurrentHead::Preparing(_) => epoch,
-            CurrentHead::Settled(_) => epoch,
+            CurrentHead::Absent => return epoch,
+            CurrentHead::Unclaimed(u) => return u.settling_epoch(epoch),
+            CurrentHead::Preparing(_) => return epoch,
+            CurrentHead::Settled(_) => return epoch,
         }
     }
 
@@ -330,10 +333,10 @@ impl CurrentHead {
         ensures { λ r. ⌜ r ≡ settledHead self epoch report ⌝ }
     {
         match self {
-            CurrentHead::Absent => self,
-            CurrentHead::Unclaimed(u) => u.settled(epoch, report),
-            CurrentHead::Preparing(u) => settle_open(u.delivery, report, u.attempt),
-            CurrentHead::Settled(s) => settle_open(s.delivery, report, s.attempt),
+            CurrentHead::Absent => return self,
+            CurrentHead::Unclaimed(u) => return u.settled(epoch, report),
+            CurrentHead::Preparing(u) => return settle_open(u.delivery, report, u.attempt),
+            CurrentHead::Settled(s) => return settle_open(s.delivery, report, s.attempt),
         }
     }
 }
@@ -347,9 +350,9 @@ pub fn wake_current(
     ensures { λ r. ⌜ r ≡ wakeCurrent end current waiters ⌝ }
 {
     match current {
-        CurrentHead::Absent => waiters,
-        CurrentHead::Unclaimed(_) => waiters,
-        CurrentHead::Preparing(u) => { wake(end, u.delivery.anchor, waiters) }
-        CurrentHead::Settled(_) => waiters,
+        CurrentHead::Absent => return waiters,
+        CurrentHead::Unclaimed(_) => return waiters,
+        CurrentHead::Preparing(u) => return wake(end, u.delivery.anchor, waiters),
+        CurrentHead::Settled(_) => return waiters,
     }
 }

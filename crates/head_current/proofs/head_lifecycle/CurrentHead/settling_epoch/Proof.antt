@@ -1,4 +1,3 @@
--- `head_current::head_lifecycle::CurrentHead::settling_epoch` meets its contract: on each way through its code the result is what the definition gives.
 use Rattle.head_current.specs.Moves.{settlingEpoch}
 use Rattle.head_current.proofs.head_lifecycle.CurrentHead.settling_epoch.Statement.{statement}
 use Rattle.head_current.proofs.head_lifecycle.CurrentHead.settling_epoch.Tie as tie
@@ -7,13 +6,11 @@ pub settling-epoch-spec : {M : Type 1} → statement M
 unfolding settlingEpoch
 settling-epoch-spec = tie.close (tie.spec
     (λ c. c .match .keys1)
+    (λ c. rw (c .enum-told .given .1))
     (λ c. c .match .keys2)
     (λ c κs. tt)
-    (λ c κs. tt)
+    (λ c. rw (c .before .before .self .given .1, ← c .settling-epoch .ensures))
     (λ c. c .match .keys3)
-    (λ c. c .match .keys4)
-    (λ c. rw (c .enum-told .given .1))
-    (λ c. rw (c .before .before .before .before .self .given .1, ← c .before .before .abandoned .ensures, c .before .if1 .taken, ← c .next .ensures))
-    (λ c. rw (c .before .before .before .self .given .1, ← c .before .abandoned .ensures, c .if1 .left))
     (λ c. rw (c .enum-told2 .given .1))
+    (λ c. c .match .keys4)
     (λ c. rw (c .enum-told3 .given .1)))

@@ -1,4 +1,3 @@
--- `head_current::head_lifecycle::UnsettledHead::settled` meets its contract: on each way through its code the result is what the definition gives.
 use Rattle.head_current.specs.Moves.{settledHead}
 use Rattle.head_current.proofs.head_lifecycle.UnsettledHead.settled.Statement.{statement}
 use Rattle.head_current.proofs.head_lifecycle.UnsettledHead.settled.Tie as tie
@@ -9,6 +8,6 @@ settled-spec = tie.close (tie.spec
     (λ c κs. tt)
     (λ c κs. tt)
     (λ c κs. tt)
-    (λ c κs. tt)
     (λ c. rw (← c .before .before .before .abandoned .ensures, c .before .before .if1 .taken, ← c .before .settled .ensures, ← c .settle-with .ensures))
+    (λ c κs. tt)
     (λ c. rw (← c .before .before .abandoned .ensures, c .before .if1 .left, ← c .settle-open .ensures)))
