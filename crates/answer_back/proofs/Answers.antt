@@ -10,7 +10,7 @@ use Rattle.script_back.proofs.Anchors.{anchor-back, slot-back, spaced-back, spa
 use Rattle.script_back.proofs.Outcomes.{end-back, link-back, outcome-back, readiness-back, report-back, source-back}
 use Rattle.script_back.specs.Ranges.{AnchorFits, Fits, OutcomeFits, ReadinessFits, ReportFits, SlotFits, StatsFit}
 use Rattle.script_back.specs.Reads.{got, map, then}
-use Rattle.script_lines.specs.Lines.{refusalOn}
+use Rattle.script_answer.specs.Lines.{refusalOn}
 use Rattle.script_outcome.specs.Texts.{endText, linkText, outcomeText, readinessText, reportText, sourceText}
 use Rattle.script_value.specs.Texts.{anchorText, slotText, spacedText, statsText}
 use Rattle.script_value.proofs.Rows.{values-then}

@@ -6,7 +6,7 @@ use mathlib.Core.Path.{_≡_, refl}
 use lib.ListN.{length, length-append}
 use Rattle.head_driver.specs.Answers.{outcomeSaid, said, statsValues}
 use Rattle.script_answer.specs.Answers.{answerLine}
-use Rattle.script_lines.specs.Lines.{answerText, refusalOn, saidText}
+use Rattle.script_answer.specs.Lines.{answerText, refusalOn, saidText}
 use Rattle.script_outcome.specs.Texts.{endText, linkText, outcomeText, readinessText, reportText, sourceText}
 use Rattle.script_value.proofs.Rows.{values-then}
 use Rattle.script_value.specs.Texts.{anchorText, slotText, spacedText, statsText}
