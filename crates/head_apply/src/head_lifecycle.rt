@@ -21,8 +21,8 @@ use head_driver::head_lifecycle::Reply;
 use head_driver::head_lifecycle::answered;
 use head_driver::head_lifecycle::ending;
 use head_driver::head_lifecycle::with_life;
-use head_life::head_lifecycle::ApplyPlan;
-use head_life::head_lifecycle::HeadOutcome;
+use head_gate::head_lifecycle::ApplyPlan;
+use head_gate::head_lifecycle::HeadOutcome;
 
 pub(crate) fn settle_as(
     d: Driver,

@@ -10,9 +10,9 @@ use Rattle.head_anchor.specs.declared.storage_memo.ReadAnchor.{ReadAnchor}
 use Rattle.head_count.specs.declared.head_lifecycle.Counter.{Counter}
 use Rattle.head_count.specs.declared.head_lifecycle.HeadCompletion.{HeadCompletion}
 use Rattle.head_current.specs.declared.head_lifecycle.Redelivery.{Redelivery}
-use Rattle.head_life.specs.declared.head_lifecycle.ClaimStart.{ClaimStart}
+use Rattle.head_gate.specs.declared.head_lifecycle.ClaimStart.{ClaimStart}
 use Rattle.head_life.specs.declared.head_lifecycle.HeadLifecycle.{HeadLifecycle}
-use Rattle.head_life.specs.declared.head_lifecycle.HeadView.{HeadView}
+use Rattle.head_ready.specs.declared.head_lifecycle.HeadView.{HeadView}
 use Rattle.head_driver.specs.declared.head_lifecycle.Answer.{Answer}
 use Rattle.head_driver.specs.declared.head_lifecycle.Driver.{Driver}
 use Rattle.head_driver.specs.declared.head_lifecycle.Reply.{Reply}

@@ -20,10 +20,10 @@ use head_current::head_lifecycle::LastReport;
 use head_current::head_lifecycle::PrepareClaim;
 use head_current::head_lifecycle::Redelivery;
 use head_current::head_lifecycle::wake_current;
-use head_life::head_lifecycle::ClaimStart;
+use head_gate::head_lifecycle::ClaimStart;
+use head_gate::head_lifecycle::HeadOutcome;
 use head_life::head_lifecycle::HeadLifecycle;
-use head_life::head_lifecycle::HeadOutcome;
-use head_life::head_lifecycle::HeadView;
+use head_ready::head_lifecycle::HeadView;
 use head_view::head_lifecycle::lookup;
 
 pub struct Driver {

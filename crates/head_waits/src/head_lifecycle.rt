@@ -13,10 +13,10 @@ use head_driver::head_lifecycle::Driver;
 use head_driver::head_lifecycle::Reply;
 use head_driver::head_lifecycle::answered;
 use head_driver::head_lifecycle::viewed;
-use head_life::head_lifecycle::HeadCold;
-use head_life::head_lifecycle::HeadReadiness;
-use head_life::head_lifecycle::HeadView;
-use head_life::head_lifecycle::Source;
+use head_ready::head_lifecycle::HeadCold;
+use head_ready::head_lifecycle::HeadReadiness;
+use head_ready::head_lifecycle::HeadView;
+use head_ready::head_lifecycle::Source;
 use head_view::head_lifecycle::lookup;
 
 pub(crate) fn unowned_reason(reason: HeadCold) -> HeadCold

@@ -14,7 +14,7 @@ use head_count::head_lifecycle::HeadCompletion;
 use head_count::head_lifecycle::HeadStats;
 use head_count::head_lifecycle::Seq;
 use head_current::head_lifecycle::LastReport;
-use head_life::head_lifecycle::HeadView;
+use head_ready::head_lifecycle::HeadView;
 use script_outcome::outcome::put_report;
 use script_outcome::view::put_readiness;
 use script_value::anchor::put_slot;

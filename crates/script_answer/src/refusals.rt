@@ -6,7 +6,7 @@ ghost use Rattle.text.specs.Writes.{Wrote};
 ghost use Rattle.head_driver.specs.declared.head_lifecycle.Answer.{Answer};
 use head_anchor::read_hub::CarryOutcome;
 use head_anchor::storage_memo::ReadAnchor;
-use head_life::head_lifecycle::HeadOutcome;
+use head_gate::head_lifecycle::HeadOutcome;
 use script_outcome::outcome::put_outcome;
 use script_value::anchor::put_anchor;
 use script_value::page::Page;

@@ -5,7 +5,7 @@ ghost use Rattle.script_outcome.specs.Texts.{linkText, sourceText, endText};
 ghost use Rattle.text.specs.Writes.{Wrote};
 use head_anchor::read_hub::Link;
 use head_count::head_lifecycle::HeadCompletion;
-use head_life::head_lifecycle::Source;
+use head_ready::head_lifecycle::Source;
 use text::put::put;
 
 // Puts what the link test answers.

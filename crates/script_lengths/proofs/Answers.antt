@@ -22,8 +22,8 @@ use Rattle.head_count.specs.declared.head_lifecycle.HeadCompletion.{HeadComplet
 use Rattle.head_count.specs.declared.head_lifecycle.HeadStats.{HeadStats}
 use Rattle.head_current.specs.declared.head_lifecycle.LastReport.{LastReport}
 use Rattle.head_driver.specs.declared.head_lifecycle.Answer.{Answer}
-use Rattle.head_life.specs.declared.head_lifecycle.HeadOutcome.{HeadOutcome}
-use Rattle.head_life.specs.declared.head_lifecycle.HeadView.{HeadView}
+use Rattle.head_gate.specs.declared.head_lifecycle.HeadOutcome.{HeadOutcome}
+use Rattle.head_ready.specs.declared.head_lifecycle.HeadView.{HeadView}
 use Rattle.script_value.specs.declared.page.Page.{Page}
 use Rattle.script_lengths.specs.Statements.{AnswerLength, AnswerRoom}
 use Rattle.script_lengths.proofs.Values.{anchor-most, end-most, link-most, outcome-most, readiness-most, report-most, slot-most, source-most, spaced-most, stats-most}

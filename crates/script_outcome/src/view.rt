@@ -4,8 +4,8 @@ ghost use lib.ListN.{length};
 ghost use Rattle.script_outcome.specs.Texts.{reasonText, readinessText};
 ghost use Rattle.text.specs.Writes.{Wrote};
 use crate::outcome::put_cold;
-use head_life::head_lifecycle::HeadCold;
-use head_life::head_lifecycle::HeadReadiness;
+use head_ready::head_lifecycle::HeadCold;
+use head_ready::head_lifecycle::HeadReadiness;
 use text::put::put;
 
 // Puts why a view is cold.
