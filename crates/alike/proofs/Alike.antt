@@ -12,8 +12,9 @@ use Rattle.head_apply.specs.Parts.{applyAs, settleAs}
 use Rattle.head_count.specs.Attempts.{firstEnd, publish, settled}
 use Rattle.head_current.specs.Heads.{anchorOf, delivery, lastReport, preparingAt, published, ticketOf, unsettled}
 use Rattle.head_current.specs.Moves.{abandonment, claimedHead, isAbandoned, ownedBy, releasedHead, settledHead, settlingEpoch, wakeCurrent}
-use Rattle.head_driver.specs.Calls.{claim, deliver, release, snapshot}
-use Rattle.head_driver.specs.Parts.{claimAs, deliverAs, endingWith, replyOf, viewed, withLife}
+use Rattle.head_calls.specs.Calls.{claim, deliver, release, snapshot}
+use Rattle.head_driver.specs.Parts.{endingWith, replyOf, viewed, withLife}
+use Rattle.head_calls.specs.Parts.{claimAs, deliverAs}
 use Rattle.head_gate.specs.Gates.{planAt, planHeld}
 use Rattle.head_life.specs.Apply.{planApply, settle}
 use Rattle.head_gate.specs.Gates.{claimStartAt}

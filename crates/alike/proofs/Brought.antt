@@ -14,8 +14,9 @@ use Rattle.head_count.specs.Attempts.{minted}
 use Rattle.head_count.specs.Counters.{sameEpoch, sameSeq}
 use Rattle.head_current.specs.Heads.{anchorOf, delivery, redelivery, repeats, sameDelivery}
 use Rattle.head_current.specs.Moves.{ownedBy, owns, settledHead, settlingEpoch, wakeCurrent}
-use Rattle.head_driver.specs.Calls.{deliver, release}
-use Rattle.head_driver.specs.Parts.{deliverAs, endingWith}
+use Rattle.head_calls.specs.Calls.{deliver, release}
+use Rattle.head_driver.specs.Parts.{endingWith}
+use Rattle.head_calls.specs.Parts.{deliverAs}
 use Rattle.head_gate.specs.Gates.{planHeld}
 use Rattle.head_life.specs.Apply.{planApply, settle}
 use Rattle.head_life.specs.Claim.{released}

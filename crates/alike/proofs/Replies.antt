@@ -7,8 +7,9 @@ use Rattle.hash.specs.Logic.{if}
 use Rattle.head_anchor.specs.Anchors.{holds}
 use Rattle.head_count.specs.Counters.{nextSeq, sameSeq}
 use Rattle.head_current.specs.Heads.{anchorOf, delivery, published, redelivery, repeats, sameDelivery, ticketOf}
-use Rattle.head_driver.specs.Calls.{claim, deliver, snapshot}
-use Rattle.head_driver.specs.Parts.{claimAs, deliverAs, viewed}
+use Rattle.head_calls.specs.Calls.{claim, deliver, snapshot}
+use Rattle.head_driver.specs.Parts.{viewed}
+use Rattle.head_calls.specs.Parts.{claimAs, deliverAs}
 use Rattle.head_gate.specs.Gates.{claimGate}
 use Rattle.head_life.specs.Claim.{claimStart}
 use Rattle.head_ready.specs.Generations.{slotAnchor}

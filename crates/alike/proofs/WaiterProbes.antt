@@ -13,8 +13,9 @@ use Rattle.head_anchor.specs.Anchors.{holds, sameAnchor}
 use Rattle.head_count.specs.Waiters.{slotOf, woken}
 use Rattle.head_current.specs.Heads.{anchorOf, delivery, preparingAt, redelivery, repeats, sameDelivery}
 use Rattle.head_current.specs.Moves.{claimedHead, wakeCurrent}
-use Rattle.head_driver.specs.Calls.{claim, deliver}
-use Rattle.head_driver.specs.Parts.{claimAs, deliverAs, endingWith, viewed, withLife}
+use Rattle.head_calls.specs.Calls.{claim, deliver}
+use Rattle.head_driver.specs.Parts.{endingWith, viewed, withLife}
+use Rattle.head_calls.specs.Parts.{claimAs, deliverAs}
 use Rattle.head_gate.specs.Gates.{claimGate}
 use Rattle.head_life.specs.Claim.{claimStart, claimed, released}
 use Rattle.head_life.specs.Deliver.{delivered, newHead}

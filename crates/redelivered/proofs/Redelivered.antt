@@ -3,8 +3,9 @@ use Prim.Native.Nat.{ℕ}
 use mathlib.Core.Path.{_≡_, refl, ap, _∙_}
 use Rattle.alike.proofs.Tests.{anchor-same}
 use Rattle.head_current.specs.Heads.{delivery, repeats}
-use Rattle.head_driver.specs.Calls.{deliver, snapshot}
-use Rattle.head_driver.specs.Parts.{deliverAs, viewed, withLife}
+use Rattle.head_calls.specs.Calls.{deliver, snapshot}
+use Rattle.head_driver.specs.Parts.{viewed, withLife}
+use Rattle.head_calls.specs.Parts.{deliverAs}
 use Rattle.head_life.specs.Deliver.{delivered}
 use Rattle.head_life.specs.State.{counted}
 use Rattle.head_step.specs.Dispatch.{dispatch}

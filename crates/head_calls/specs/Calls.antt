@@ -11,10 +11,11 @@ use Rattle.head_anchor.specs.declared.storage_memo.ReadAnchor.{ReadAnchor}
 use Rattle.head_count.specs.declared.head_lifecycle.HeadCompletion.{HeadCompletion}
 use Rattle.head_current.specs.declared.head_lifecycle.HeadTicket.{HeadTicket}
 use Rattle.head_current.specs.declared.head_lifecycle.PrepareClaim.{PrepareClaim}
-use Rattle.head_driver.specs.Parts.{claimAs, deliverAs, endingWith, replyOf, viewed}
+use Rattle.head_driver.specs.Parts.{endingWith, replyOf, viewed}
+use Rattle.head_calls.specs.Parts.{claimAs, deliverAs}
 use Rattle.head_driver.specs.declared.head_lifecycle.Answer.{Answer}
 use Rattle.head_driver.specs.declared.head_lifecycle.Driver.{Driver}
 use Rattle.head_driver.specs.declared.head_lifecycle.Reply.{Reply}
 
 -- `deliver`: same anchor and parent hash as current: repeated plus 1, old seq. Otherwise seq plus 1; a replaced head's attempt ends superseded; the rest is `delivered`.
 unfoldable pub deliver : Driver → ReadAnchor → Hash → ℕ → Reply
