@@ -11,7 +11,7 @@ use Rattle.head_apply.specs.Apply.{apply}
 use Rattle.head_apply.specs.Parts.{applyAs, settleAs}
 use Rattle.head_count.specs.Attempts.{firstEnd, publish, settled}
 use Rattle.head_current.specs.Heads.{anchorOf, delivery, lastReport, preparingAt, published, ticketOf, unsettled}
-use Rattle.head_current.specs.Moves.{abandonment, claimedHead, isAbandoned, ownedBy, releasedHead, settledHead, settlingEpoch, wakeCurrent}
+use Rattle.head_moves.specs.Moves.{abandonment, claimedHead, isAbandoned, ownedBy, releasedHead, settledHead, settlingEpoch, wakeCurrent}
 use Rattle.head_calls.specs.Calls.{claim, deliver, release, snapshot}
 use Rattle.head_driver.specs.Parts.{endingWith, replyOf, viewed, withLife}
 use Rattle.head_calls.specs.Parts.{claimAs, deliverAs}

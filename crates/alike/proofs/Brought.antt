@@ -13,7 +13,7 @@ use Rattle.head_apply.specs.Parts.{applyAs, settleAs}
 use Rattle.head_count.specs.Attempts.{minted}
 use Rattle.head_count.specs.Counters.{sameEpoch, sameSeq}
 use Rattle.head_current.specs.Heads.{anchorOf, delivery, redelivery, repeats, sameDelivery}
-use Rattle.head_current.specs.Moves.{ownedBy, owns, settledHead, settlingEpoch, wakeCurrent}
+use Rattle.head_moves.specs.Moves.{ownedBy, owns, settledHead, settlingEpoch, wakeCurrent}
 use Rattle.head_calls.specs.Calls.{deliver, release}
 use Rattle.head_driver.specs.Parts.{endingWith}
 use Rattle.head_calls.specs.Parts.{deliverAs}

@@ -12,7 +12,7 @@ use Rattle.head_anchor.specs.Lists.{applyPrepared, isLinked, isRead, outcome}
 use Rattle.head_count.specs.Attempts.{firstEnd, minted, publish, settled}
 use Rattle.head_count.specs.Counters.{nextEpoch, nextSeq, raise, seqOf, up}
 use Rattle.head_current.specs.Heads.{delivery, lastReport, unsettled}
-use Rattle.head_current.specs.Moves.{abandonment, claimedHead, releasedHead, settledHead, settledOf, settlingEpoch}
+use Rattle.head_moves.specs.Moves.{abandonment, claimedHead, releasedHead, settledHead, settledOf, settlingEpoch}
 use Rattle.head_driver.specs.Parts.{withLife}
 use Rattle.head_life.specs.Apply.{settle}
 use Rattle.head_life.specs.Claim.{claimed, released}

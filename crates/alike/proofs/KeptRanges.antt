@@ -12,7 +12,7 @@ use Rattle.head_count.specs.Attempts.{minted, publish, settled}
 use Rattle.head_count.specs.Counters.{nextEpoch, nextSeq, raise}
 use Rattle.head_count.specs.Waiters.{slotOf}
 use Rattle.head_current.specs.Heads.{delivery, unsettled}
-use Rattle.head_current.specs.Moves.{abandonment, claimedHead, releasedHead, settledHead, settlingEpoch}
+use Rattle.head_moves.specs.Moves.{abandonment, claimedHead, releasedHead, settledHead, settlingEpoch}
 use Rattle.head_driver.specs.Parts.{endingWith, withLife}
 use Rattle.head_life.specs.Apply.{settle}
 use Rattle.head_life.specs.Claim.{claimed, released}

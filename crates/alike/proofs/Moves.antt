@@ -9,7 +9,7 @@ use Rattle.head_apply.specs.Apply.{apply}
 use Rattle.head_apply.specs.Parts.{applyAs, settleAs}
 use Rattle.head_count.specs.Counters.{nextEpoch, raise, recordView}
 use Rattle.head_current.specs.Heads.{delivery, preparingAt, ticketOf}
-use Rattle.head_current.specs.Moves.{ownedBy}
+use Rattle.head_moves.specs.Moves.{ownedBy}
 use Rattle.head_calls.specs.Calls.{claim, deliver, release, snapshot}
 use Rattle.head_driver.specs.Parts.{endingWith, viewed, withLife}
 use Rattle.head_calls.specs.Parts.{claimAs, deliverAs}

@@ -12,7 +12,7 @@ use Rattle.hash.specs.Logic.{if}
 use Rattle.head_anchor.specs.Anchors.{holds, sameAnchor}
 use Rattle.head_count.specs.Waiters.{slotOf, woken}
 use Rattle.head_current.specs.Heads.{anchorOf, delivery, preparingAt, redelivery, repeats, sameDelivery}
-use Rattle.head_current.specs.Moves.{claimedHead, wakeCurrent}
+use Rattle.head_moves.specs.Moves.{claimedHead, wakeCurrent}
 use Rattle.head_calls.specs.Calls.{claim, deliver}
 use Rattle.head_driver.specs.Parts.{endingWith, viewed, withLife}
 use Rattle.head_calls.specs.Parts.{claimAs, deliverAs}

@@ -3,7 +3,7 @@
 use Prim.Native.Nat.{ℕ}
 use Rattle.hash.specs.Logic.{if}
 use Rattle.head_current.specs.Heads.{delivery, repeats}
-use Rattle.head_current.specs.Moves.{ownedBy}
+use Rattle.head_moves.specs.Moves.{ownedBy}
 use Rattle.head_life.specs.Claim.{claimStart, released}
 use Rattle.head_view.specs.Snapshot.{view}
 use Rattle.hash.specs.declared.Hash.{Hash}

@@ -3,7 +3,7 @@ ghost use mathlib.Core.Path.{_≡_};
 ghost use Rattle.head_calls.specs.Calls.{deliver, claim, release, snapshot};
 ghost use Rattle.head_calls.specs.Parts.{deliverAs, claimAs};
 ghost use Rattle.head_current.specs.Heads.{delivery, repeats};
-ghost use Rattle.head_current.specs.Moves.{ownedBy};
+ghost use Rattle.head_moves.specs.Moves.{ownedBy};
 ghost use Rattle.head_driver.specs.Answers.{Replies};
 ghost use Rattle.head_driver.specs.Parts.{replyOf, withLife, endingWith};
 ghost use Rattle.head_life.specs.Claim.{released};
@@ -26,6 +26,7 @@ use head_driver::head_lifecycle::viewed;
 use head_driver::head_lifecycle::with_life;
 use head_gate::head_lifecycle::ClaimStart;
 use head_life::head_lifecycle::HeadLifecycle;
+use head_moves::head_lifecycle::owned_by;
 use head_view::head_lifecycle::lookup;
 
 // A delivery that repeats the current head's.
@@ -98,7 +99,7 @@ pub(crate) fn owned(life: HeadLifecycle, claim: PrepareClaim) -> bool
     ensures { λ r. ⌜ r ≡ ownedBy (life .current) claim ⌝ }
 {
     let current = life.current;
-    current.owned_by(claim)
+    owned_by(current, claim)
 }
 
 pub fn release(d: Driver, claim: PrepareClaim) -> Reply

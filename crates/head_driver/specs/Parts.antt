@@ -1,5 +1,5 @@
 -- What the calls on a driver share: one definition for each function that their code goes through.
-use Rattle.head_current.specs.Moves.{wakeCurrent}
+use Rattle.head_moves.specs.Moves.{wakeCurrent}
 use Rattle.head_life.specs.State.{viewCounted}
 use Rattle.head_count.specs.declared.head_lifecycle.HeadCompletion.{HeadCompletion}
 use Rattle.head_life.specs.declared.head_lifecycle.HeadLifecycle.{HeadLifecycle}

@@ -10,9 +10,9 @@ use head_count::head_lifecycle::HeadStats;
 use head_count::head_lifecycle::Seq;
 use head_count::head_lifecycle::WaiterSlot;
 use head_current::head_lifecycle::LastReport;
-use head_current::head_lifecycle::wake_current;
 use head_gate::head_lifecycle::HeadOutcome;
 use head_life::head_lifecycle::HeadLifecycle;
+use head_moves::head_lifecycle::wake_current;
 use head_ready::head_lifecycle::HeadView;
 
 pub struct Driver {

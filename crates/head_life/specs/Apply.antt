@@ -2,7 +2,7 @@
 use Prim.Native.Nat.{ℕ}
 use Rattle.head_count.specs.Counters.{raise}
 use Rattle.head_current.specs.Heads.{delivery}
-use Rattle.head_current.specs.Moves.{settledHead, settlingEpoch}
+use Rattle.head_moves.specs.Moves.{settledHead, settlingEpoch}
 use Rattle.head_gate.specs.Gates.{planAt}
 use Rattle.head_ready.specs.Generations.{previousAfter, settledReadiness, slotAnchor}
 use Rattle.head_anchor.specs.declared.read_hub.CarryOutcome.{CarryOutcome}

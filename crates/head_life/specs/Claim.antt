@@ -1,5 +1,5 @@
 -- Document 01, "Lifecycle": `claim` and `release`. The Rust: `HeadLifecycle::claim` and `release`, of head_lifecycle.rs.
-use Rattle.head_current.specs.Moves.{claimedHead, releasedHead}
+use Rattle.head_moves.specs.Moves.{claimedHead, releasedHead}
 use Rattle.head_gate.specs.Gates.{claimStartAt}
 use Rattle.head_ready.specs.Generations.{slotAnchor}
 use Rattle.head_count.specs.declared.head_lifecycle.Epoch.{Epoch}

@@ -26,6 +26,10 @@ use head_gate::head_lifecycle::ApplyPlan;
 use head_gate::head_lifecycle::ClaimStart;
 use head_gate::head_lifecycle::claim_start;
 use head_gate::head_lifecycle::plan_at;
+use head_moves::head_lifecycle::claimed_head;
+use head_moves::head_lifecycle::released_head;
+use head_moves::head_lifecycle::settled_head;
+use head_moves::head_lifecycle::settling_epoch;
 use head_ready::delta_snapshot::Generation;
 use head_ready::delta_snapshot::GenerationSlot;
 use head_ready::head_lifecycle::HeadReadiness;
@@ -176,7 +180,7 @@ impl HeadLifecycle {
         ensures { λ r. ⌜ r ≡ claimed self epoch ⌝ }
     {
         let old = self.current;
-        self.with_head(old.claimed(epoch), epoch)
+        self.with_head(claimed_head(old, epoch), epoch)
     }
 
     // The caller has seen that the claim owns the head.
@@ -184,7 +188,7 @@ impl HeadLifecycle {
         ensures { λ r. ⌜ r ≡ released self ⌝ }
     {
         let old = self.current;
-        self.with_head(old.released(), self.claim_epoch)
+        self.with_head(released_head(old), self.claim_epoch)
     }
 
     pub fn plan_apply(self, ticket: HeadTicket, prepared: ReadAnchor) -> ApplyPlan
@@ -207,8 +211,8 @@ impl HeadLifecycle {
     {
         let old = self.current;
         let prior = self.installed;
-        let claim_epoch = old.settling_epoch(self.claim_epoch);
-        let current = old.settled(claim_epoch, LastReport::Made(outcome, report));
+        let claim_epoch = settling_epoch(old, self.claim_epoch);
+        let current = settled_head(old, claim_epoch, LastReport::Made(outcome, report));
         let readiness = settled_readiness(outcome);
         let installed = GenerationSlot::Held(Generation {
             anchor,

@@ -180,7 +180,12 @@ pub(crate) fn resume_as(d: Driver, waiter: Waiter, n: u64, spare: u64) -> Reply
     match waiter {
         Waiter::Free => return answered(d, Answer::WaiterFree),
         Waiter::Parked => return answered(d, Answer::Parked),
-        Waiter::Abandoned(anchor) => return view_abandoned(d, n, lookup(d.life, anchor, spare), spare),
+        Waiter::Abandoned(anchor) => return view_abandoned(
+            d,
+            n,
+            lookup(d.life, anchor, spare),
+            spare,
+        ),
         Waiter::Ended(anchor) => return join(d, n, anchor, spare),
     }
 }

@@ -7,4 +7,4 @@ unfolding claimed
 claimed-spec = tie.close (tie.spec
     (λ c κs. tt)
     (λ c κs. tt)
-    (λ c. rw (← c .before .claimed .ensures, ← c .with-head .ensures)))
+    (λ c. rw (← c .before .claimed-head .ensures, ← c .with-head .ensures)))

@@ -7,4 +7,4 @@ unfolding released
 release-spec = tie.close (tie.spec
     (λ c κs. tt)
     (λ c κs. tt)
-    (λ c. rw (← c .before .released .ensures, ← c .with-head .ensures)))
+    (λ c. rw (← c .before .released-head .ensures, ← c .with-head .ensures)))
