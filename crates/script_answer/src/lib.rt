@@ -17,7 +17,7 @@ use crate::lines::put_view;
 use crate::refusals::put_head_outcome;
 use head_driver::head_lifecycle::Answer;
 use script_value::buffer::Written;
-use text::put::put;
+use text_put::put::put;
 
 mod lines;
 mod refusals;

@@ -20,8 +20,8 @@ use script_outcome::view::put_readiness;
 use script_value::anchor::put_slot;
 use script_value::counters::put_stats;
 use script_value::page::Page;
-use text::decimal::put_decimal;
-use text::put::put;
+use text_put::decimal::put_decimal;
+use text_put::put::put;
 
 pub(crate) fn put_ticket(buf: &mut [u8], at: usize, seq: Seq) -> usize
     requires { ⌜ at + 29 ≤ length (now buf) ⌝ }

@@ -10,7 +10,7 @@ use head_gate::head_lifecycle::HeadOutcome;
 use script_outcome::outcome::put_outcome;
 use script_value::anchor::put_anchor;
 use script_value::page::Page;
-use text::put::put;
+use text_put::put::put;
 
 pub(crate) fn put_settled(buf: &mut [u8], at: usize, outcome: CarryOutcome) -> usize
     requires { ⌜ at + 62 ≤ length (now buf) ⌝ }

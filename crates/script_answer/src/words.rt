@@ -6,7 +6,7 @@ ghost use Rattle.text.specs.Writes.{Wrote};
 use head_anchor::read_hub::Link;
 use head_count::head_lifecycle::HeadCompletion;
 use head_ready::head_lifecycle::Source;
-use text::put::put;
+use text_put::put::put;
 
 // Puts what the link test answers.
 pub(crate) fn put_link(buf: &mut [u8], at: usize, link: Link) -> usize

@@ -7,8 +7,8 @@ use head_anchor::bal_prefetch::BalSkip;
 use head_anchor::read_hub::CarryOutcome;
 use head_anchor::read_hub::Link;
 use head_current::head_lifecycle::LastReport;
-use text::decimal::put_decimal;
-use text::put::put;
+use text_put::decimal::put_decimal;
+use text_put::put::put;
 
 // Puts what is wrong with a link, or `none`.
 pub(crate) fn put_fault(buf: &mut [u8], at: usize, link: Link) -> usize

@@ -6,7 +6,7 @@ ghost use Rattle.text.specs.Writes.{Wrote};
 use crate::outcome::put_cold;
 use head_ready::head_lifecycle::HeadCold;
 use head_ready::head_lifecycle::HeadReadiness;
-use text::put::put;
+use text_put::put::put;
 
 // Puts why a view is cold.
 pub(crate) fn put_reason(buf: &mut [u8], at: usize, reason: HeadCold) -> usize

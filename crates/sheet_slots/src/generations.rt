@@ -9,7 +9,7 @@ use script_outcome::view::put_readiness;
 use script_value::anchor::put_anchor;
 use script_value::counters::put_spaced;
 use script_value::page::Page;
-use text::put::put;
+use text_put::put::put;
 
 // Puts `A H READINESS`: the one place where what follows a generation's handle is written.
 pub(crate) fn put_held(buf: &mut [u8], at: usize, held: Generation) -> usize

@@ -4,10 +4,10 @@ use native.Mathlib.Omega.{arith}
 use mathlib.Core.Path.{_≡_}
 use lib.ListN.{length, take}
 use borrow.Author.Needs.{needs}
 use Rattle.text.specs.Writes.{Wrote}
 use Rattle.text.proofs.Writes.{copy-none, copy-more, copy-done}
-use Rattle.text.proofs.put.put.Statement.{statement}
-use Rattle.text.proofs.put.put.Tie as tie
+use Rattle.text_put.proofs.put.put.Statement.{statement}
+use Rattle.text_put.proofs.put.put.Tie as tie
 
 abbrev Inv-loop : tie.InvT-loop
 Inv-loop buf₀ at text i₀ buf i = (i ≤ length text) × (length buf ≡ length buf₀) × Wrote buf₀ buf at (at + i) (take i text)
