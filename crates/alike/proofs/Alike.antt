@@ -11,13 +11,16 @@ use Rattle.head_apply.specs.Apply.{apply}
 use Rattle.head_apply.specs.Parts.{applyAs, settleAs}
 use Rattle.head_count.specs.Attempts.{firstEnd, publish, settled}
 use Rattle.head_current.specs.Heads.{anchorOf, delivery, lastReport, preparingAt, published, ticketOf, unsettled}
-use Rattle.head_current.specs.Moves.{abandonment, claimedHead, isAbandoned, ownedBy, releasedHead, settledHead, settlingEpoch, wakeCurrent}
-use Rattle.head_driver.specs.Calls.{claim, deliver, release, snapshot}
-use Rattle.head_driver.specs.Parts.{claimAs, deliverAs, endingWith, replyOf, viewed, withLife}
-use Rattle.head_life.specs.Apply.{planApply, planAt, planHeld, settle}
-use Rattle.head_life.specs.Claim.{claimStart, claimStartAt, claimed, released}
+use Rattle.head_moves.specs.Moves.{abandonment, claimedHead, isAbandoned, ownedBy, releasedHead, settledHead, settlingEpoch, wakeCurrent}
+use Rattle.head_calls.specs.Calls.{claim, deliver, release, snapshot}
+use Rattle.head_driver.specs.Parts.{endingWith, replyOf, viewed, withLife}
+use Rattle.head_calls.specs.Parts.{claimAs, deliverAs}
+use Rattle.head_gate.specs.Gates.{planAt, planHeld}
+use Rattle.head_life.specs.Apply.{planApply, settle}
+use Rattle.head_gate.specs.Gates.{claimStartAt}
+use Rattle.head_life.specs.Claim.{claimStart, claimed, released}
 use Rattle.head_life.specs.Deliver.{delivered, replaced}
-use Rattle.head_life.specs.Generations.{slotAnchor}
+use Rattle.head_ready.specs.Generations.{slotAnchor}
 use Rattle.head_life.specs.State.{counted, endAt, viewCounted}
 use Rattle.head_reads.specs.Calls.{completion, heads, link, report, stats}
 use Rattle.head_step.proofs.Asked.{asked}
@@ -49,11 +52,11 @@ use Rattle.head_current.specs.declared.head_lifecycle.UnsettledHead.{UnsettledH
 use Rattle.head_driver.specs.declared.head_lifecycle.Answer.{Answer}
 use Rattle.head_driver.specs.declared.head_lifecycle.Driver.{Driver}
 use Rattle.head_driver.specs.declared.head_lifecycle.Reply.{Reply}
-use Rattle.head_life.specs.declared.delta_snapshot.GenerationSlot.{GenerationSlot}
-use Rattle.head_life.specs.declared.head_lifecycle.ApplyPlan.{ApplyPlan}
-use Rattle.head_life.specs.declared.head_lifecycle.ClaimStart.{ClaimStart}
-use Rattle.head_life.specs.declared.head_lifecycle.HeadView.{HeadView}
-use Rattle.head_life.specs.declared.head_lifecycle.Source.{Source}
+use Rattle.head_ready.specs.declared.delta_snapshot.GenerationSlot.{GenerationSlot}
+use Rattle.head_gate.specs.declared.head_lifecycle.ApplyPlan.{ApplyPlan}
+use Rattle.head_gate.specs.declared.head_lifecycle.ClaimStart.{ClaimStart}
+use Rattle.head_ready.specs.declared.head_lifecycle.HeadView.{HeadView}
+use Rattle.head_ready.specs.declared.head_lifecycle.Source.{Source}
 use Rattle.head_step.specs.declared.head_lifecycle.Call.{Call}
 use Rattle.alike.proofs.KeptOrder.{held-same, nothing-held}
 use Rattle.alike.proofs.Tests.{by-if, by-test, same-holds, true-false}

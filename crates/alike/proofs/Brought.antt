@@ -13,13 +13,15 @@ use Rattle.head_apply.specs.Parts.{applyAs, settleAs}
 use Rattle.head_count.specs.Attempts.{minted}
 use Rattle.head_count.specs.Counters.{sameEpoch, sameSeq}
 use Rattle.head_current.specs.Heads.{anchorOf, delivery, redelivery, repeats, sameDelivery}
-use Rattle.head_current.specs.Moves.{ownedBy, owns, settledHead, settlingEpoch, wakeCurrent}
-use Rattle.head_driver.specs.Calls.{deliver, release}
-use Rattle.head_driver.specs.Parts.{deliverAs, endingWith}
-use Rattle.head_life.specs.Apply.{planApply, planHeld, settle}
+use Rattle.head_moves.specs.Moves.{ownedBy, owns, settledHead, settlingEpoch, wakeCurrent}
+use Rattle.head_calls.specs.Calls.{deliver, release}
+use Rattle.head_driver.specs.Parts.{endingWith}
+use Rattle.head_calls.specs.Parts.{deliverAs}
+use Rattle.head_gate.specs.Gates.{planHeld}
+use Rattle.head_life.specs.Apply.{planApply, settle}
 use Rattle.head_life.specs.Claim.{released}
 use Rattle.head_life.specs.Deliver.{delivered, deliveredAt}
-use Rattle.head_life.specs.Generations.{previousAfter, slotAnchor}
+use Rattle.head_ready.specs.Generations.{previousAfter, slotAnchor}
 use Rattle.head_step.specs.Dispatch.{dispatch}
 use Rattle.hash.specs.declared.Hash.{Hash}
 use Rattle.head_anchor.specs.declared.bal_prefetch.BalSkip.{BalSkip}
@@ -39,7 +41,7 @@ use Rattle.head_current.specs.declared.head_lifecycle.LastReport.{LastReport}
 use Rattle.head_current.specs.declared.head_lifecycle.Redelivery.{Redelivery}
 use Rattle.head_current.specs.declared.head_lifecycle.UnsettledHead.{UnsettledHead}
 use Rattle.head_driver.specs.declared.head_lifecycle.Driver.{Driver}
-use Rattle.head_life.specs.declared.delta_snapshot.GenerationSlot.{GenerationSlot}
+use Rattle.head_ready.specs.declared.delta_snapshot.GenerationSlot.{GenerationSlot}
 use Rattle.head_step.specs.declared.head_lifecycle.Call.{Call}
 use Rattle.alike.proofs.KeptOrder.{Settles, head-settles}
 use Rattle.alike.proofs.Poses.{Pose, Unsettled, currentAnchor, held-at, installedAnchor, not-installed, pose}

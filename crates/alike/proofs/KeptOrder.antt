@@ -12,12 +12,12 @@ use Rattle.head_anchor.specs.Lists.{applyPrepared, isLinked, isRead, outcome}
 use Rattle.head_count.specs.Attempts.{firstEnd, minted, publish, settled}
 use Rattle.head_count.specs.Counters.{nextEpoch, nextSeq, raise, seqOf, up}
 use Rattle.head_current.specs.Heads.{delivery, lastReport, unsettled}
-use Rattle.head_current.specs.Moves.{abandonment, claimedHead, releasedHead, settledHead, settledOf, settlingEpoch}
+use Rattle.head_moves.specs.Moves.{abandonment, claimedHead, releasedHead, settledHead, settledOf, settlingEpoch}
 use Rattle.head_driver.specs.Parts.{withLife}
 use Rattle.head_life.specs.Apply.{settle}
 use Rattle.head_life.specs.Claim.{claimed, released}
 use Rattle.head_life.specs.Deliver.{countDelivery, countReplaced, delivered, deliveredAt, newHead}
-use Rattle.head_life.specs.Generations.{previousAfter, settledReadiness, slotAnchor}
+use Rattle.head_ready.specs.Generations.{previousAfter, settledReadiness, slotAnchor}
 use Rattle.head_life.specs.State.{counted, withStats}
 use Rattle.head_step.specs.Steps.{step}
 use Rattle.head_waits.specs.Parts.{put}
@@ -37,8 +37,8 @@ use Rattle.head_current.specs.declared.head_lifecycle.HeadDelivery.{HeadDeliver
 use Rattle.head_current.specs.declared.head_lifecycle.LastReport.{LastReport}
 use Rattle.head_current.specs.declared.head_lifecycle.UnsettledHead.{UnsettledHead}
 use Rattle.head_driver.specs.declared.head_lifecycle.Driver.{Driver}
-use Rattle.head_life.specs.declared.delta_snapshot.Generation.{Generation}
-use Rattle.head_life.specs.declared.delta_snapshot.GenerationSlot.{GenerationSlot}
+use Rattle.head_ready.specs.declared.delta_snapshot.Generation.{Generation}
+use Rattle.head_ready.specs.declared.delta_snapshot.GenerationSlot.{GenerationSlot}
 use Rattle.head_life.specs.declared.head_lifecycle.HeadLifecycle.{HeadLifecycle}
 use Rattle.head_step.specs.declared.head_lifecycle.Call.{Call}
 use Rattle.alike.proofs.Moves.{Move, step-move}

@@ -6,7 +6,7 @@ use mathlib.Core.Path.{_≡_, refl}
 use lib.ListN.{set}
 use Rattle.head_count.specs.Waiters.{slotOf}
 use Rattle.head_current.specs.Heads.{preparingAt}
-use Rattle.head_current.specs.Moves.{claimedHead}
+use Rattle.head_moves.specs.Moves.{claimedHead}
 use Rattle.head_driver.specs.Parts.{endingWith, withLife}
 use Rattle.head_life.specs.Apply.{settle}
 use Rattle.head_life.specs.Claim.{claimed, released}

@@ -12,12 +12,12 @@ use Rattle.head_count.specs.Attempts.{minted, publish, settled}
 use Rattle.head_count.specs.Counters.{nextEpoch, nextSeq, raise}
 use Rattle.head_count.specs.Waiters.{slotOf}
 use Rattle.head_current.specs.Heads.{delivery, unsettled}
-use Rattle.head_current.specs.Moves.{abandonment, claimedHead, releasedHead, settledHead, settlingEpoch}
+use Rattle.head_moves.specs.Moves.{abandonment, claimedHead, releasedHead, settledHead, settlingEpoch}
 use Rattle.head_driver.specs.Parts.{endingWith, withLife}
 use Rattle.head_life.specs.Apply.{settle}
 use Rattle.head_life.specs.Claim.{claimed, released}
 use Rattle.head_life.specs.Deliver.{countDelivery, countReplaced, delivered, newHead, replaced}
-use Rattle.head_life.specs.Generations.{previousAfter, settledReadiness, slotAnchor}
+use Rattle.head_ready.specs.Generations.{previousAfter, settledReadiness, slotAnchor}
 use Rattle.head_life.specs.State.{counted}
 use Rattle.head_step.specs.Steps.{step}
 use Rattle.head_waits.specs.Parts.{put}
@@ -36,7 +36,7 @@ use Rattle.head_current.specs.declared.head_lifecycle.DeliverySlot.{DeliverySlo
 use Rattle.head_current.specs.declared.head_lifecycle.HeadDelivery.{HeadDelivery}
 use Rattle.head_current.specs.declared.head_lifecycle.LastReport.{LastReport}
 use Rattle.head_driver.specs.declared.head_lifecycle.Driver.{Driver}
-use Rattle.head_life.specs.declared.delta_snapshot.GenerationSlot.{GenerationSlot}
+use Rattle.head_ready.specs.declared.delta_snapshot.GenerationSlot.{GenerationSlot}
 use Rattle.head_life.specs.declared.head_lifecycle.HeadLifecycle.{HeadLifecycle}
 use Rattle.head_step.specs.declared.head_lifecycle.Call.{Call}
 use Rattle.alike.proofs.KeptOrder.{held-same, nothing-held}

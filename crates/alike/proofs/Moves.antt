@@ -9,13 +9,16 @@ use Rattle.head_apply.specs.Apply.{apply}
 use Rattle.head_apply.specs.Parts.{applyAs, settleAs}
 use Rattle.head_count.specs.Counters.{nextEpoch, raise, recordView}
 use Rattle.head_current.specs.Heads.{delivery, preparingAt, ticketOf}
-use Rattle.head_current.specs.Moves.{ownedBy}
-use Rattle.head_driver.specs.Calls.{claim, deliver, release, snapshot}
-use Rattle.head_driver.specs.Parts.{claimAs, deliverAs, endingWith, viewed, withLife}
-use Rattle.head_life.specs.Apply.{planApply, planAt, planHeld, settle}
-use Rattle.head_life.specs.Claim.{claimGate, claimStart, claimStartAt, claimed, released}
+use Rattle.head_moves.specs.Moves.{ownedBy}
+use Rattle.head_calls.specs.Calls.{claim, deliver, release, snapshot}
+use Rattle.head_driver.specs.Parts.{endingWith, viewed, withLife}
+use Rattle.head_calls.specs.Parts.{claimAs, deliverAs}
+use Rattle.head_gate.specs.Gates.{planAt, planHeld}
+use Rattle.head_life.specs.Apply.{planApply, settle}
+use Rattle.head_gate.specs.Gates.{claimGate, claimStartAt}
+use Rattle.head_life.specs.Claim.{claimStart, claimed, released}
 use Rattle.head_life.specs.Deliver.{delivered}
-use Rattle.head_life.specs.Generations.{isReady, slotAnchor}
+use Rattle.head_ready.specs.Generations.{isReady, slotAnchor}
 use Rattle.head_life.specs.State.{counted, viewCounted, withStats}
 use Rattle.head_reads.specs.Calls.{completion, heads, link, report, stats}
 use Rattle.head_step.proofs.Asked.{asked}
@@ -39,9 +42,9 @@ use Rattle.head_current.specs.declared.head_lifecycle.Redelivery.{Redelivery}
 use Rattle.head_current.specs.declared.head_lifecycle.UnsettledHead.{UnsettledHead}
 use Rattle.head_driver.specs.declared.head_lifecycle.Driver.{Driver}
 use Rattle.head_driver.specs.declared.head_lifecycle.Reply.{Reply}
-use Rattle.head_life.specs.declared.head_lifecycle.ApplyPlan.{ApplyPlan}
-use Rattle.head_life.specs.declared.head_lifecycle.ClaimStart.{ClaimStart}
-use Rattle.head_life.specs.declared.head_lifecycle.HeadView.{HeadView}
+use Rattle.head_gate.specs.declared.head_lifecycle.ApplyPlan.{ApplyPlan}
+use Rattle.head_gate.specs.declared.head_lifecycle.ClaimStart.{ClaimStart}
+use Rattle.head_ready.specs.declared.head_lifecycle.HeadView.{HeadView}
 use Rattle.head_step.specs.declared.head_lifecycle.Call.{Call}
 use Rattle.alike.proofs.Tests.{by-if, true-false}
 

@@ -8,8 +8,8 @@ use Rattle.head_count.specs.Attempts.{minted}
 use Rattle.head_count.specs.Counters.{epochOf, nextEpoch, seqOf}
 use Rattle.head_current.specs.Heads.{anchorOf, delivery, lastReport, published}
 use Rattle.head_life.specs.Deliver.{deliveryOf}
-use Rattle.head_life.specs.Generations.{slotAnchor}
-use Rattle.head_life.specs.Refusals.{refused-13, refused-14}
+use Rattle.head_ready.specs.Generations.{slotAnchor}
+use Rattle.head_gate.specs.Refusals.{refused-13, refused-14}
 use Rattle.hash.specs.declared.Hash.{Hash}
 use Rattle.head_anchor.specs.declared.storage_memo.AnchorSlot.{AnchorSlot}
 use Rattle.head_anchor.specs.declared.storage_memo.BlockHash.{BlockHash}
@@ -23,8 +23,8 @@ use Rattle.head_current.specs.declared.head_lifecycle.LastReport.{LastReport}
 use Rattle.head_current.specs.declared.head_lifecycle.UnsettledHead.{UnsettledHead}
 use Rattle.head_driver.specs.declared.head_lifecycle.Answer.{Answer}
 use Rattle.head_driver.specs.declared.head_lifecycle.Driver.{Driver}
-use Rattle.head_life.specs.declared.delta_snapshot.Generation.{Generation}
-use Rattle.head_life.specs.declared.delta_snapshot.GenerationSlot.{GenerationSlot}
+use Rattle.head_ready.specs.declared.delta_snapshot.Generation.{Generation}
+use Rattle.head_ready.specs.declared.delta_snapshot.GenerationSlot.{GenerationSlot}
 use Rattle.head_life.specs.declared.head_lifecycle.HeadLifecycle.{HeadLifecycle}
 use Rattle.alike.proofs.Alike.{SameHead, unsettledAt}
 use Rattle.alike.proofs.KeptRanges.{held-fits}

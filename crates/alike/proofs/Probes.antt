@@ -7,7 +7,7 @@ use Rattle.hash.specs.Logic.{if}
 use Rattle.head_count.specs.Attempts.{minted}
 use Rattle.head_count.specs.Counters.{nextSeq, seqOf, up}
 use Rattle.head_current.specs.Heads.{delivery, lastReport, published}
-use Rattle.head_life.specs.Generations.{slotAnchor}
+use Rattle.head_ready.specs.Generations.{slotAnchor}
 use Rattle.head_reads.specs.Calls.{heads, report, stats}
 use Rattle.head_step.specs.Dispatch.{dispatch}
 use Rattle.head_view.specs.Snapshot.{viewOf}
@@ -19,11 +19,11 @@ use Rattle.head_count.specs.declared.head_lifecycle.Seq.{Seq}
 use Rattle.head_current.specs.declared.head_lifecycle.CurrentHead.{CurrentHead}
 use Rattle.head_driver.specs.declared.head_lifecycle.Answer.{Answer}
 use Rattle.head_driver.specs.declared.head_lifecycle.Driver.{Driver}
-use Rattle.head_life.specs.declared.delta_snapshot.Generation.{Generation}
-use Rattle.head_life.specs.declared.delta_snapshot.GenerationSlot.{GenerationSlot}
-use Rattle.head_life.specs.declared.head_lifecycle.HeadCold.{HeadCold}
-use Rattle.head_life.specs.declared.head_lifecycle.HeadReadiness.{HeadReadiness}
-use Rattle.head_life.specs.declared.head_lifecycle.Source.{Source}
+use Rattle.head_ready.specs.declared.delta_snapshot.Generation.{Generation}
+use Rattle.head_ready.specs.declared.delta_snapshot.GenerationSlot.{GenerationSlot}
+use Rattle.head_ready.specs.declared.head_lifecycle.HeadCold.{HeadCold}
+use Rattle.head_ready.specs.declared.head_lifecycle.HeadReadiness.{HeadReadiness}
+use Rattle.head_ready.specs.declared.head_lifecycle.Source.{Source}
 use Rattle.head_step.specs.declared.head_lifecycle.Call.{Call}
 use Rattle.alike.proofs.Alike.{SameHead}
 use Rattle.alike.proofs.KeptRanges.{held-fits}

@@ -7,10 +7,12 @@ use Rattle.hash.specs.Logic.{if}
 use Rattle.head_anchor.specs.Anchors.{holds}
 use Rattle.head_count.specs.Counters.{nextSeq, sameSeq}
 use Rattle.head_current.specs.Heads.{anchorOf, delivery, published, redelivery, repeats, sameDelivery, ticketOf}
-use Rattle.head_driver.specs.Calls.{claim, deliver, snapshot}
-use Rattle.head_driver.specs.Parts.{claimAs, deliverAs, viewed}
-use Rattle.head_life.specs.Claim.{claimGate, claimStart}
-use Rattle.head_life.specs.Generations.{slotAnchor}
+use Rattle.head_calls.specs.Calls.{claim, deliver, snapshot}
+use Rattle.head_driver.specs.Parts.{viewed}
+use Rattle.head_calls.specs.Parts.{claimAs, deliverAs}
+use Rattle.head_gate.specs.Gates.{claimGate}
+use Rattle.head_life.specs.Claim.{claimStart}
+use Rattle.head_ready.specs.Generations.{slotAnchor}
 use Rattle.head_life.specs.State.{endAt}
 use Rattle.head_reads.specs.Calls.{completion}
 use Rattle.head_view.specs.Snapshot.{currentView, generationView, provisionalView, spareView, view, viewOf}
@@ -23,13 +25,13 @@ use Rattle.head_current.specs.declared.head_lifecycle.DeliverySlot.{DeliverySlo
 use Rattle.head_current.specs.declared.head_lifecycle.HeadDelivery.{HeadDelivery}
 use Rattle.head_driver.specs.declared.head_lifecycle.Answer.{Answer}
 use Rattle.head_driver.specs.declared.head_lifecycle.Driver.{Driver}
-use Rattle.head_life.specs.declared.delta_snapshot.Generation.{Generation}
-use Rattle.head_life.specs.declared.delta_snapshot.GenerationSlot.{GenerationSlot}
-use Rattle.head_life.specs.declared.head_lifecycle.HeadCold.{HeadCold}
+use Rattle.head_ready.specs.declared.delta_snapshot.Generation.{Generation}
+use Rattle.head_ready.specs.declared.delta_snapshot.GenerationSlot.{GenerationSlot}
+use Rattle.head_ready.specs.declared.head_lifecycle.HeadCold.{HeadCold}
 use Rattle.head_life.specs.declared.head_lifecycle.HeadLifecycle.{HeadLifecycle}
-use Rattle.head_life.specs.declared.head_lifecycle.HeadReadiness.{HeadReadiness}
-use Rattle.head_life.specs.declared.head_lifecycle.HeadView.{HeadView}
-use Rattle.head_life.specs.declared.head_lifecycle.Source.{Source}
+use Rattle.head_ready.specs.declared.head_lifecycle.HeadReadiness.{HeadReadiness}
+use Rattle.head_ready.specs.declared.head_lifecycle.HeadView.{HeadView}
+use Rattle.head_ready.specs.declared.head_lifecycle.Source.{Source}
 use Rattle.alike.proofs.Alike.{unsettledAt}
 use Rattle.alike.proofs.Poses.{Unsettled, claimAnswer, currentAnchor, installedAnchor, not-installed, pose, previousAnchor, provisionalOf}
 use Rattle.alike.proofs.Tests.{anchor-same, at-same, by-test, eqb-same, nothing-at, same-holds}

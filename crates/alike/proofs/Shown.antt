@@ -8,7 +8,7 @@ use Rattle.head_anchor.specs.Anchors.{holds}
 use Rattle.head_count.specs.Attempts.{settled}
 use Rattle.head_count.specs.Counters.{seqOf}
 use Rattle.head_current.specs.Heads.{anchorOf, delivery}
-use Rattle.head_life.specs.Generations.{slotAnchor}
+use Rattle.head_ready.specs.Generations.{slotAnchor}
 use Rattle.head_anchor.specs.declared.storage_memo.AnchorSlot.{AnchorSlot}
 use Rattle.head_anchor.specs.declared.storage_memo.ReadAnchor.{ReadAnchor}
 use Rattle.head_count.specs.declared.head_lifecycle.Epoch.{Epoch}
@@ -20,7 +20,7 @@ use Rattle.head_current.specs.declared.head_lifecycle.DeliverySlot.{DeliverySlo
 use Rattle.head_current.specs.declared.head_lifecycle.HeadDelivery.{HeadDelivery}
 use Rattle.head_current.specs.declared.head_lifecycle.LastReport.{LastReport}
 use Rattle.head_driver.specs.declared.head_lifecycle.Driver.{Driver}
-use Rattle.head_life.specs.declared.delta_snapshot.GenerationSlot.{GenerationSlot}
+use Rattle.head_ready.specs.declared.delta_snapshot.GenerationSlot.{GenerationSlot}
 use Rattle.head_life.specs.declared.head_lifecycle.HeadLifecycle.{HeadLifecycle}
 use Rattle.head_step.specs.declared.head_lifecycle.Call.{Call}
 use Rattle.alike.proofs.Alike.{Alike, SameHead, SameSuperseded, Telling, both-step, driverOf, same-of}

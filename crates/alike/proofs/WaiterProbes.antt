@@ -12,12 +12,14 @@ use Rattle.hash.specs.Logic.{if}
 use Rattle.head_anchor.specs.Anchors.{holds, sameAnchor}
 use Rattle.head_count.specs.Waiters.{slotOf, woken}
 use Rattle.head_current.specs.Heads.{anchorOf, delivery, preparingAt, redelivery, repeats, sameDelivery}
-use Rattle.head_current.specs.Moves.{claimedHead, wakeCurrent}
-use Rattle.head_driver.specs.Calls.{claim, deliver}
-use Rattle.head_driver.specs.Parts.{claimAs, deliverAs, endingWith, viewed, withLife}
-use Rattle.head_life.specs.Claim.{claimGate, claimStart, claimed, released}
+use Rattle.head_moves.specs.Moves.{claimedHead, wakeCurrent}
+use Rattle.head_calls.specs.Calls.{claim, deliver}
+use Rattle.head_driver.specs.Parts.{endingWith, viewed, withLife}
+use Rattle.head_calls.specs.Parts.{claimAs, deliverAs}
+use Rattle.head_gate.specs.Gates.{claimGate}
+use Rattle.head_life.specs.Claim.{claimStart, claimed, released}
 use Rattle.head_life.specs.Deliver.{delivered, newHead}
-use Rattle.head_life.specs.Generations.{isReady}
+use Rattle.head_ready.specs.Generations.{isReady}
 use Rattle.head_life.specs.State.{counted}
 use Rattle.head_step.specs.Dispatch.{dispatch}
 use Rattle.head_view.specs.Snapshot.{generationView, spareView, view, viewOf}
@@ -36,12 +38,12 @@ use Rattle.head_current.specs.declared.head_lifecycle.Redelivery.{Redelivery}
 use Rattle.head_current.specs.declared.head_lifecycle.UnsettledHead.{UnsettledHead}
 use Rattle.head_driver.specs.declared.head_lifecycle.Answer.{Answer}
 use Rattle.head_driver.specs.declared.head_lifecycle.Driver.{Driver}
-use Rattle.head_life.specs.declared.delta_snapshot.GenerationSlot.{GenerationSlot}
-use Rattle.head_life.specs.declared.head_lifecycle.HeadCold.{HeadCold}
+use Rattle.head_ready.specs.declared.delta_snapshot.GenerationSlot.{GenerationSlot}
+use Rattle.head_ready.specs.declared.head_lifecycle.HeadCold.{HeadCold}
 use Rattle.head_life.specs.declared.head_lifecycle.HeadLifecycle.{HeadLifecycle}
-use Rattle.head_life.specs.declared.head_lifecycle.HeadReadiness.{HeadReadiness}
-use Rattle.head_life.specs.declared.head_lifecycle.HeadView.{HeadView}
-use Rattle.head_life.specs.declared.head_lifecycle.Source.{Source}
+use Rattle.head_ready.specs.declared.head_lifecycle.HeadReadiness.{HeadReadiness}
+use Rattle.head_ready.specs.declared.head_lifecycle.HeadView.{HeadView}
+use Rattle.head_ready.specs.declared.head_lifecycle.Source.{Source}
 use Rattle.head_step.specs.declared.head_lifecycle.Call.{Call}
 use Rattle.alike.proofs.Alike.{unsettledAt}
 use Rattle.alike.proofs.Brought.{cold-step, delivering, outside, outside-first, outside-fits, release-hit, zeros, zeros-fit}

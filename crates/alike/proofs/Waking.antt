@@ -4,7 +4,7 @@ use mathlib.Core.List.{List, [], _∷_}
 use mathlib.Core.Path.{_≡_, refl, ap, _∙_}
 use lib.ListN.{length, set}
 use Rattle.head_count.specs.Waiters.{slotOf, wake, woken}
-use Rattle.head_current.specs.Moves.{wakeCurrent}
+use Rattle.head_moves.specs.Moves.{wakeCurrent}
 use Rattle.head_reads.specs.Calls.{free}
 use Rattle.head_waits.specs.Parts.{waiterAt}
 use Rattle.head_anchor.specs.declared.storage_memo.ReadAnchor.{ReadAnchor}

@@ -9,7 +9,7 @@ use Rattle.head_count.specs.Counters.{epochOf, seqOf}
 use Rattle.head_count.specs.Waiters.{slotOf}
 use Rattle.head_current.specs.Heads.{anchorOf, delivery}
 use Rattle.head_life.specs.Deliver.{deliveryOf}
-use Rattle.head_life.specs.Generations.{slotAnchor}
+use Rattle.head_ready.specs.Generations.{slotAnchor}
 use Rattle.head_anchor.specs.declared.storage_memo.AnchorSlot.{AnchorSlot}
 use Rattle.head_anchor.specs.declared.storage_memo.ReadAnchor.{ReadAnchor}
 use Rattle.head_count.specs.declared.head_lifecycle.Epoch.{Epoch}
@@ -18,7 +18,7 @@ use Rattle.head_count.specs.declared.head_lifecycle.WaiterSlot.{WaiterSlot}
 use Rattle.head_current.specs.declared.head_lifecycle.CurrentHead.{CurrentHead}
 use Rattle.head_current.specs.declared.head_lifecycle.HeadDelivery.{HeadDelivery}
 use Rattle.head_driver.specs.declared.head_lifecycle.Driver.{Driver}
-use Rattle.head_life.specs.declared.delta_snapshot.GenerationSlot.{GenerationSlot}
+use Rattle.head_ready.specs.declared.delta_snapshot.GenerationSlot.{GenerationSlot}
 use Rattle.head_life.specs.declared.head_lifecycle.HeadLifecycle.{HeadLifecycle}
 
 abbrev pub isSettled : CurrentHead → Bool

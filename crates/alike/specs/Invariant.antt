@@ -10,7 +10,7 @@ use Rattle.head_anchor.specs.Lists.{isLinked, isRead}
 use Rattle.head_count.specs.Attempts.{minted}
 use Rattle.head_count.specs.Counters.{seqOf}
 use Rattle.head_current.specs.Heads.{delivery, lastReport}
-use Rattle.head_life.specs.Generations.{settledReadiness, slotAnchor}
+use Rattle.head_ready.specs.Generations.{settledReadiness, slotAnchor}
 use Rattle.head_anchor.specs.declared.read_hub.CarryOutcome.{CarryOutcome}
 use Rattle.head_anchor.specs.declared.storage_memo.AnchorSlot.{AnchorSlot}
 use Rattle.head_count.specs.declared.head_lifecycle.HeadCompletion.{HeadCompletion}
@@ -23,11 +23,11 @@ use Rattle.head_current.specs.declared.head_lifecycle.LastReport.{LastReport}
 use Rattle.head_current.specs.declared.head_lifecycle.SettledHead.{SettledHead}
 use Rattle.head_current.specs.declared.head_lifecycle.UnsettledHead.{UnsettledHead}
 use Rattle.head_driver.specs.declared.head_lifecycle.Driver.{Driver}
-use Rattle.head_life.specs.declared.delta_snapshot.Generation.{Generation}
-use Rattle.head_life.specs.declared.delta_snapshot.GenerationSlot.{GenerationSlot}
-use Rattle.head_life.specs.declared.head_lifecycle.HeadCold.{HeadCold}
+use Rattle.head_ready.specs.declared.delta_snapshot.Generation.{Generation}
+use Rattle.head_ready.specs.declared.delta_snapshot.GenerationSlot.{GenerationSlot}
+use Rattle.head_ready.specs.declared.head_lifecycle.HeadCold.{HeadCold}
 use Rattle.head_life.specs.declared.head_lifecycle.HeadLifecycle.{HeadLifecycle}
-use Rattle.head_life.specs.declared.head_lifecycle.HeadReadiness.{HeadReadiness}
+use Rattle.head_ready.specs.declared.head_lifecycle.HeadReadiness.{HeadReadiness}
 use Rattle.alike.specs.Ranges.{DriverFits}
 
 -- a fact of a current head, by what it is

@@ -10,7 +10,7 @@ use Rattle.script_back.proofs.Anchors.{anchor-back, slot-back, spaced-back, spa
 use Rattle.script_back.proofs.Outcomes.{end-back, link-back, outcome-back, readiness-back, report-back, source-back}
 use Rattle.script_back.specs.Ranges.{AnchorFits, Fits, OutcomeFits, ReadinessFits, ReportFits, SlotFits, StatsFit}
 use Rattle.script_back.specs.Reads.{got, map, then}
-use Rattle.script_lines.specs.Lines.{refusalOn}
+use Rattle.script_answer.specs.Lines.{refusalOn}
 use Rattle.script_outcome.specs.Texts.{endText, linkText, outcomeText, readinessText, reportText, sourceText}
 use Rattle.script_value.specs.Texts.{anchorText, slotText, spacedText, statsText}
 use Rattle.script_value.proofs.Rows.{values-then}
@@ -28,8 +28,8 @@ use Rattle.head_count.specs.declared.head_lifecycle.HeadCompletion.{HeadComplet
 use Rattle.head_count.specs.declared.head_lifecycle.HeadStats.{HeadStats}
 use Rattle.head_current.specs.declared.head_lifecycle.LastReport.{LastReport}
 use Rattle.head_driver.specs.declared.head_lifecycle.Answer.{Answer}
-use Rattle.head_life.specs.declared.head_lifecycle.HeadOutcome.{HeadOutcome}
-use Rattle.head_life.specs.declared.head_lifecycle.HeadView.{HeadView}
+use Rattle.head_gate.specs.declared.head_lifecycle.HeadOutcome.{HeadOutcome}
+use Rattle.head_ready.specs.declared.head_lifecycle.HeadView.{HeadView}
 use Rattle.script_value.specs.declared.page.Page.{Page}
 use Rattle.answer_back.specs.Ranges.{AnswerFits, HeadOutcomeFits}
 use Rattle.answer_back.specs.Reads.{answerNamed, readAnswer, readForeign, readHeads, readRefused, readView, refusedBy}

@@ -7,7 +7,7 @@ use Rattle.head_anchor.specs.Values.{Value}
 use Rattle.head_driver.specs.Answers.{said}
 use Rattle.script_answer.specs.Answers.{answerLine}
 use Rattle.script_back.specs.Reads.{then}
-use Rattle.script_lines.specs.Lines.{answerText, refusalOn, saidText}
+use Rattle.script_answer.specs.Lines.{answerText, refusalOn, saidText}
 use Rattle.script_value.specs.Values.{valueText, valuesOn}
 use Rattle.script_value.specs.Words.{wordText}
 use Rattle.text.proofs.Back.{past-back, word-back}

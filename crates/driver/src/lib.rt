@@ -14,7 +14,7 @@ use script_call::LineCall;
 use script_call::read_call;
 use script_sheet::put_sheet;
 use script_value::buffer::Written;
-use text::put::put;
+use text_put::put::put;
 
 // What a line is answered with. A sheet stands in the caller's buffer, this many bytes of it, and has no answer line.
 pub enum LineAnswer {

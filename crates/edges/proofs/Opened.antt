@@ -8,15 +8,17 @@ use Rattle.head_count.specs.Attempts
 use Rattle.head_count.specs.Counters
 use Rattle.head_count.specs.Waiters
 use Rattle.head_current.specs.Heads
-use Rattle.head_current.specs.Moves
+use Rattle.head_moves.specs.Moves
 use Rattle.head_life.specs.Apply as LifeApply
 use Rattle.head_life.specs.Claim
 use Rattle.head_life.specs.Deliver
-use Rattle.head_life.specs.Generations
+use Rattle.head_ready.specs.Generations
+use Rattle.head_gate.specs.Gates
 use Rattle.head_life.specs.State
 use Rattle.head_view.specs.Snapshot
 use Rattle.head_driver.specs.Answers as Said
-use Rattle.head_driver.specs.Calls as DriverCalls
+use Rattle.head_calls.specs.Calls as DriverCalls
+use Rattle.head_calls.specs.Parts as CallParts
 use Rattle.head_driver.specs.Parts as DriverParts
 use Rattle.head_apply.specs.Apply as ApplyCall
 use Rattle.head_apply.specs.Parts as ApplyParts
@@ -41,7 +43,7 @@ use Rattle.script_value.specs.Texts as ValueTexts
 use Rattle.script_value.specs.Values as ValueForms
 use Rattle.script_value.specs.Words as WordTexts
 use Rattle.script_outcome.specs.Texts as OutcomeTexts
-use Rattle.script_lines.specs.Lines as AnswerTexts
+use Rattle.script_answer.specs.Lines as AnswerTexts
 use Rattle.script_answer.specs.Answers as AnswerLines
 use Rattle.alike.specs.Canon
 use Rattle.sheet_lines.specs.Lines as SheetLines
@@ -64,7 +66,7 @@ heads = tt
 
 -- the lifecycle and what is read of it
 unfoldable life : Unit {0}
-unfolding LifeApply.planHeld LifeApply.planApply LifeApply.settle Claim.claimGate Claim.claimStart Claim.claimed Claim.released Deliver.replaced Deliver.countReplaced
+unfolding Gates.planHeld LifeApply.planApply LifeApply.settle Gates.claimGate Claim.claimStart Claim.claimed Claim.released Deliver.replaced Deliver.countReplaced
     Deliver.countDelivery Deliver.newHead Deliver.delivered Generations.slotAnchor Generations.settledReadiness Generations.isReady Generations.previousAfter State.noHead
     State.counted State.viewCounted State.endAt Snapshot.generationView Snapshot.provisionalView Snapshot.currentView Snapshot.spareReason Snapshot.spareView
     Snapshot.view
@@ -73,7 +75,7 @@ life = tt
 -- the calls
 unfoldable calls : Unit {0}
 unfolding Said.readinessValue Said.sourceValue Said.endValue Said.reportValue Said.statsValues Said.outcomeSaid Said.said DriverCalls.deliver DriverCalls.claim
-    DriverCalls.release DriverCalls.snapshot DriverParts.withLife DriverParts.deliverAs DriverParts.claimAs DriverParts.viewed ApplyCall.apply ApplyParts.settleAs
+    DriverCalls.release DriverCalls.snapshot DriverParts.withLife CallParts.deliverAs CallParts.claimAs DriverParts.viewed ApplyCall.apply ApplyParts.settleAs
     ApplyParts.applyAs WaitCalls.wait WaitCalls.resume WaitParts.unownedReason WaitParts.unownedReadiness WaitParts.unowned WaitParts.abandonedView WaitParts.waiterAt
     WaitParts.put WaitParts.viewedBy WaitParts.join WaitParts.waitAs WaitParts.resumeAs ReadCalls.new ReadCalls.completion ReadCalls.link ReadCalls.report ReadCalls.stats
     ReadCalls.heads Dispatch.listRefusal Dispatch.waiterRefusal Dispatch.dispatch Inputs.inputNumber Inputs.inputRefusal Steps.step

@@ -5,7 +5,7 @@ use mathlib.Core.Path.{_≡_}
 use mathlib.Core.List.{List, []}
 use lib.ListN.{length, drop, set, length-set}
 use Rattle.hash_text.specs.Hex.{hex, hexOn, glyph}
-use Rattle.text.proofs.Fill.{drop-set-same}
+use Rattle.text_put.proofs.Fill.{drop-set-same}
 
 -- what is left to write, in front of what is written, is n
 pub record Filled (n : ℕ) (ds : List ℕ) (i rest : ℕ) : Type 0 where

@@ -14,7 +14,7 @@ use text::decimal::Number;
 use text::place::Place;
 use text::place::past;
 use text::place::word_from;
-use text::put::put;
+use text_put::put::put;
 
 // What a byte says as a hexadecimal digit.
 pub enum Digit {

@@ -3,7 +3,7 @@ use Prim.Native.Nat.{ℕ}
 use Rattle.head_anchor.specs.Lists.{applyPrepared}
 use Rattle.head_driver.specs.Parts.{endingWith, replyOf, withLife}
 use Rattle.head_life.specs.Apply.{settle}
-use Rattle.head_life.specs.Generations.{slotAnchor}
+use Rattle.head_ready.specs.Generations.{slotAnchor}
 use Rattle.head_life.specs.State.{counted}
 use Rattle.head_anchor.specs.declared.bal_prefetch.BalSkip.{BalSkip}
 use Rattle.head_anchor.specs.declared.read_hub.CarryOutcome.{CarryOutcome}
@@ -13,8 +13,8 @@ use Rattle.head_count.specs.declared.head_lifecycle.HeadCompletion.{HeadComplet
 use Rattle.head_driver.specs.declared.head_lifecycle.Answer.{Answer}
 use Rattle.head_driver.specs.declared.head_lifecycle.Driver.{Driver}
 use Rattle.head_driver.specs.declared.head_lifecycle.Reply.{Reply}
-use Rattle.head_life.specs.declared.head_lifecycle.ApplyPlan.{ApplyPlan}
-use Rattle.head_life.specs.declared.head_lifecycle.HeadOutcome.{HeadOutcome}
+use Rattle.head_gate.specs.declared.head_lifecycle.ApplyPlan.{ApplyPlan}
+use Rattle.head_gate.specs.declared.head_lifecycle.HeadOutcome.{HeadOutcome}
 
 unfoldable pub settleAs : Driver → ReadAnchor → CarryOutcome → ℕ → ℕ → Reply
 settleAs d a o handle report = replyOf (endingWith d (settle (d .life) a o handle report) HeadCompletion.Settled) (Answer.Outcome (HeadOutcome.Settled o))

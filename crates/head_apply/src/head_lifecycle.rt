@@ -21,8 +21,8 @@ use head_driver::head_lifecycle::Reply;
 use head_driver::head_lifecycle::answered;
 use head_driver::head_lifecycle::ending;
 use head_driver::head_lifecycle::with_life;
-use head_life::head_lifecycle::ApplyPlan;
-use head_life::head_lifecycle::HeadOutcome;
+use head_gate::head_lifecycle::ApplyPlan;
+use head_gate::head_lifecycle::HeadOutcome;
 
 pub(crate) fn settle_as(
     d: Driver,
@@ -86,9 +86,9 @@ pub(crate) fn apply_as(
     ensures { λ r. ⌜ r ≡ applyAs d skip handle carried report plan ⌝ }
 {
     match plan {
-        ApplyPlan::Refused(outcome) => answered(d, Answer::Outcome(outcome)),
-        ApplyPlan::Discarded(outcome) => discard(d, outcome),
-        ApplyPlan::Admitted(held) => admit(d, held, skip, handle, carried, report),
+        ApplyPlan::Refused(outcome) => return answered(d, Answer::Outcome(outcome)),
+        ApplyPlan::Discarded(outcome) => return discard(d, outcome),
+        ApplyPlan::Admitted(held) => return admit(d, held, skip, handle, carried, report),
     }
 }
 
@@ -105,15 +105,14 @@ pub fn apply(
 {
     let skip = list.skip;
     if as_prepared(list) {
-        apply_as(
+        return apply_as(
             d,
             skip,
             handle,
             carried,
             report,
             d.life.plan_apply(ticket, list.anchor),
-        )
-    } else {
-        answered(d, Answer::ListAtOdds)
+        );
     }
+    answered(d, Answer::ListAtOdds)
 }

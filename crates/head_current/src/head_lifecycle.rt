@@ -1,8 +1,6 @@
 // From head_lifecycle.rs: `HeadTicket`, `PrepareClaim`, `HeadDelivery`, `UnsettledHead`, `SettledHead`, `CurrentHead`.
 ghost use mathlib.Core.Path.{_≡_};
-ghost use Rattle.head_count.specs.Attempts.{publish};
 ghost use Rattle.head_current.specs.Heads.{sameDelivery, redelivery, repeats, ticketOf, delivery, anchorOf, published, unsettled, preparingAt, lastReport};
-ghost use Rattle.head_current.specs.Moves.{settledOf, claimedHead, owns, ownedBy, releasedHead, abandonment, settlingEpoch, settledHead, wakeCurrent};
 use hash::Hash;
 use hash::both;
 use hash::same_hash;
@@ -14,8 +12,6 @@ use head_count::head_lifecycle::ClaimAttempt;
 use head_count::head_lifecycle::Epoch;
 use head_count::head_lifecycle::HeadCompletion;
 use head_count::head_lifecycle::Seq;
-use head_count::head_lifecycle::WaiterSlot;
-use head_count::head_lifecycle::wake;
 
 pub struct HeadTicket {
     pub anchor: ReadAnchor,
@@ -106,80 +102,17 @@ impl HeadDelivery {
     }
 }
 
-impl UnsettledHead {
-    pub(crate) fn owned_by(self, claim: PrepareClaim) -> bool
-        ensures { λ r. ⌜ r ≡ owns self claim ⌝ }
-    {
-        let delivery = self.delivery;
-        let attempt = self.attempt;
-        let seq = delivery.seq;
-        let epoch = attempt.epoch;
-        both(seq.same(claim.seq), epoch.same(claim.epoch))
-    }
-
-    // Whether the attempt has ended abandoned, so that a settle needs a new one.
-    pub(crate) fn abandoned(self) -> bool
-        ensures { λ r. ⌜ r ≡ abandonment self ⌝ }
-    {
-        let attempt = self.attempt;
-        let end = attempt.end;
-        match end {
-            HeadCompletion::Open => false,
-            HeadCompletion::Settled => false,
-            HeadCompletion::Superseded => false,
-            HeadCompletion::Abandoned => true,
-        }
-    }
-
-    pub(crate) fn claimed(self, epoch: Epoch) -> CurrentHead
-        ensures { λ r. ⌜ r ≡ claimedHead (CurrentHead.Unclaimed self) epoch ⌝ }
-    {
-        let attempt = ClaimAttempt::minted(epoch);
-        CurrentHead::Preparing(UnsettledHead { attempt, ..self })
-    }
-
-    pub(crate) fn released(self) -> CurrentHead
-        ensures { λ r. ⌜ r ≡ releasedHead (CurrentHead.Preparing self) ⌝ }
-    {
-        let old = self.attempt;
-        let attempt = old.publish(HeadCompletion::Abandoned);
-        CurrentHead::Unclaimed(UnsettledHead { attempt, ..self })
-    }
-
-    pub(crate) fn settled(self, epoch: Epoch, report: LastReport) -> CurrentHead
-        ensures { λ r. ⌜ r ≡ settledHead (CurrentHead.Unclaimed self) epoch report ⌝ }
-    {
-        if self.abandoned() {
-            settle_with(self.delivery, report, ClaimAttempt::settled(epoch))
-        } else {
-            settle_open(self.delivery, report, self.attempt)
-        }
-    }
+pub(crate) fn held(delivery: HeadDelivery) -> DeliverySlot
+    ensures { λ r. ⌜ r ≡ DeliverySlot.Held delivery ⌝ }
+{
+    DeliverySlot::Held(delivery)
 }
 
-pub(crate) fn settle_with(
-    delivery: HeadDelivery,
-    report: LastReport,
-    attempt: ClaimAttempt,
-) -> CurrentHead
-    ensures { λ r. ⌜ r ≡ CurrentHead.Settled (settledOf delivery report attempt) ⌝ }
+// The end that an attempt has published.
+pub(crate) fn end_of(attempt: ClaimAttempt) -> HeadCompletion
+    ensures { λ r. ⌜ r ≡ attempt .end ⌝ }
 {
-    CurrentHead::Settled(SettledHead {
-        delivery,
-        report,
-        attempt,
-    })
-}
-
-// The attempt ends settled, if it has not ended.
-pub(crate) fn settle_open(
-    delivery: HeadDelivery,
-    report: LastReport,
-    attempt: ClaimAttempt,
-) -> CurrentHead
-    ensures { λ r. ⌜ r ≡ CurrentHead.Settled (settledOf delivery report (publish attempt HeadCompletion.Settled)) ⌝ }
-{
-    settle_with(delivery, report, attempt.publish(HeadCompletion::Settled))
+    attempt.end
 }
 
 impl CurrentHead {
@@ -187,19 +120,10 @@ impl CurrentHead {
         ensures { λ r. ⌜ r ≡ delivery self ⌝ }
     {
         match self {
-            CurrentHead::Absent => DeliverySlot::Nothing,
-            CurrentHead::Unclaimed(u) => {
-                let held = u.delivery;
-                DeliverySlot::Held(held)
-            }
-            CurrentHead::Preparing(u) => {
-                let held = u.delivery;
-                DeliverySlot::Held(held)
-            }
-            CurrentHead::Settled(s) => {
-                let held = s.delivery;
-                DeliverySlot::Held(held)
-            }
+            CurrentHead::Absent => return DeliverySlot::Nothing,
+            CurrentHead::Unclaimed(u) => return held(u.delivery),
+            CurrentHead::Preparing(u) => return held(u.delivery),
+            CurrentHead::Settled(s) => return held(s.delivery),
         }
     }
 
@@ -219,8 +143,8 @@ impl CurrentHead {
         ensures { λ r. ⌜ r ≡ repeats (delivery self) anchor «parent_hash» ⌝ }
     {
         match self.delivery() {
-            DeliverySlot::Nothing => Redelivery::New,
-            DeliverySlot::Held(held) => held.repeated_by(anchor, parent_hash),
+            DeliverySlot::Nothing => return Redelivery::New,
+            DeliverySlot::Held(held) => return held.repeated_by(anchor, parent_hash),
         }
     }
 
@@ -229,19 +153,10 @@ impl CurrentHead {
         ensures { λ r. ⌜ r ≡ published self ⌝ }
     {
         match self {
-            CurrentHead::Absent => HeadCompletion::Open,
-            CurrentHead::Unclaimed(u) => {
-                let attempt = u.attempt;
-                attempt.end
-            }
-            CurrentHead::Preparing(u) => {
-                let attempt = u.attempt;
-                attempt.end
-            }
-            CurrentHead::Settled(s) => {
-                let attempt = s.attempt;
-                attempt.end
-            }
+            CurrentHead::Absent => return HeadCompletion::Open,
+            CurrentHead::Unclaimed(u) => return end_of(u.attempt),
+            CurrentHead::Preparing(u) => return end_of(u.attempt),
+            CurrentHead::Settled(s) => return end_of(s.attempt),
         }
     }
 
@@ -250,10 +165,10 @@ impl CurrentHead {
         ensures { λ r. ⌜ r ≡ unsettled self ⌝ }
     {
         match self {
-            CurrentHead::Absent => false,
-            CurrentHead::Unclaimed(_) => true,
-            CurrentHead::Preparing(_) => true,
-            CurrentHead::Settled(_) => false,
+            CurrentHead::Absent => return false,
+            CurrentHead::Unclaimed(_) => return true,
+            CurrentHead::Preparing(_) => return true,
+            CurrentHead::Settled(_) => return false,
         }
     }
 
@@ -261,10 +176,10 @@ impl CurrentHead {
         ensures { λ r. ⌜ r ≡ preparingAt self anchor ⌝ }
     {
         match self {
-            CurrentHead::Absent => false,
-            CurrentHead::Unclaimed(_) => false,
-            CurrentHead::Preparing(u) => same_anchor(u.delivery.anchor, anchor),
-            CurrentHead::Settled(_) => false,
+            CurrentHead::Absent => return false,
+            CurrentHead::Unclaimed(_) => return false,
+            CurrentHead::Preparing(u) => return same_anchor(u.delivery.anchor, anchor),
+            CurrentHead::Settled(_) => return false,
         }
     }
 
@@ -272,84 +187,10 @@ impl CurrentHead {
         ensures { λ r. ⌜ r ≡ lastReport self ⌝ }
     {
         match self {
-            CurrentHead::Absent => LastReport::Nothing,
-            CurrentHead::Unclaimed(_) => LastReport::Nothing,
-            CurrentHead::Preparing(_) => LastReport::Nothing,
-            CurrentHead::Settled(s) => s.report,
+            CurrentHead::Absent => return LastReport::Nothing,
+            CurrentHead::Unclaimed(_) => return LastReport::Nothing,
+            CurrentHead::Preparing(_) => return LastReport::Nothing,
+            CurrentHead::Settled(s) => return s.report,
         }
-    }
-
-    pub fn claimed(self, epoch: Epoch) -> CurrentHead
-        ensures { λ r. ⌜ r ≡ claimedHead self epoch ⌝ }
-    {
-        match self {
-            CurrentHead::Absent => self,
-            CurrentHead::Unclaimed(u) => u.claimed(epoch),
-            CurrentHead::Preparing(_) => self,
-            CurrentHead::Settled(_) => self,
-        }
-    }
-
-    pub fn owned_by(self, claim: PrepareClaim) -> bool
-        ensures { λ r. ⌜ r ≡ ownedBy self claim ⌝ }
-    {
-        match self {
-            CurrentHead::Absent => false,
-            CurrentHead::Unclaimed(_) => false,
-            CurrentHead::Preparing(u) => u.owned_by(claim),
-            CurrentHead::Settled(_) => false,
-        }
-    }
-
-    // The caller has seen that the claim owns the head.
-    pub fn released(self) -> CurrentHead
-        ensures { λ r. ⌜ r ≡ releasedHead self ⌝ }
-    {
-        match self {
-            CurrentHead::Absent => self,
-            CurrentHead::Unclaimed(_) => self,
-            CurrentHead::Preparing(u) => u.released(),
-            CurrentHead::Settled(_) => self,
-        }
-    }
-
-    // The epoch counter after a settle: an abandoned attempt's end is not rewritten, so the settle takes a new epoch.
-    pub fn settling_epoch(self, epoch: Epoch) -> Epoch
-        ensures { λ r. ⌜ r ≡ settlingEpoch self epoch ⌝ }
-    {
-        match self {
-            CurrentHead::Absent => epoch,
-            CurrentHead::Unclaimed(u) => { if u.abandoned() { epoch.next() } else { epoch } }
-            CurrentHead::Preparing(_) => epoch,
-            CurrentHead::Settled(_) => epoch,
-        }
-    }
-
-    // `epoch` is the epoch counter after the settle.
-    pub fn settled(self, epoch: Epoch, report: LastReport) -> CurrentHead
-        ensures { λ r. ⌜ r ≡ settledHead self epoch report ⌝ }
-    {
-        match self {
-            CurrentHead::Absent => self,
-            CurrentHead::Unclaimed(u) => u.settled(epoch, report),
-            CurrentHead::Preparing(u) => settle_open(u.delivery, report, u.attempt),
-            CurrentHead::Settled(s) => settle_open(s.delivery, report, s.attempt),
-        }
-    }
-}
-
-// Only a preparing head has waiters parked on it.
-pub fn wake_current(
-    end: HeadCompletion,
-    current: CurrentHead,
-    waiters: [WaiterSlot; 16],
-) -> [WaiterSlot; 16]
-    ensures { λ r. ⌜ r ≡ wakeCurrent end current waiters ⌝ }
-{
-    match current {
-        CurrentHead::Absent => waiters,
-        CurrentHead::Unclaimed(_) => waiters,
-        CurrentHead::Preparing(u) => { wake(end, u.delivery.anchor, waiters) }
-        CurrentHead::Settled(_) => waiters,
     }
 }

@@ -1,5 +1,3 @@
--- Document 01, "Lifecycle", "Turned away by the state", "Lines": the calls deliver, claim, release and snapshot, and what an answer says. Answers and Calls are the
--- paper's; Parts are what the calls are made of.
+-- Document 01, "Turned away by the state", "Lines": what an answer says. Answers is the paper's; Parts are what the calls share.
 pub mod Answers
 pub mod Parts
-pub mod Calls

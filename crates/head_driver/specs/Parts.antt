@@ -1,18 +1,9 @@
--- What the calls on a driver are made of: one definition for each function that the calls' code goes through.
-use Prim.Native.Nat.{ℕ}
-use Rattle.head_count.specs.Counters.{nextSeq}
-use Rattle.head_current.specs.Moves.{wakeCurrent}
-use Rattle.head_life.specs.Claim.{claimed}
-use Rattle.head_life.specs.Deliver.{delivered}
-use Rattle.head_life.specs.State.{counted, viewCounted}
-use Rattle.hash.specs.declared.Hash.{Hash}
-use Rattle.head_anchor.specs.declared.storage_memo.ReadAnchor.{ReadAnchor}
-use Rattle.head_count.specs.declared.head_lifecycle.Counter.{Counter}
+-- What the calls on a driver share: one definition for each function that their code goes through.
+use Rattle.head_moves.specs.Moves.{wakeCurrent}
+use Rattle.head_life.specs.State.{viewCounted}
 use Rattle.head_count.specs.declared.head_lifecycle.HeadCompletion.{HeadCompletion}
-use Rattle.head_current.specs.declared.head_lifecycle.Redelivery.{Redelivery}
-use Rattle.head_life.specs.declared.head_lifecycle.ClaimStart.{ClaimStart}
 use Rattle.head_life.specs.declared.head_lifecycle.HeadLifecycle.{HeadLifecycle}
-use Rattle.head_life.specs.declared.head_lifecycle.HeadView.{HeadView}
+use Rattle.head_ready.specs.declared.head_lifecycle.HeadView.{HeadView}
 use Rattle.head_driver.specs.declared.head_lifecycle.Answer.{Answer}
 use Rattle.head_driver.specs.declared.head_lifecycle.Driver.{Driver}
 use Rattle.head_driver.specs.declared.head_lifecycle.Reply.{Reply}
@@ -26,14 +17,6 @@ withLife d l = record { life = l; waiters = d .waiters }
 -- the next lifecycle, with the current preparation ended so
 abbrev pub endingWith : Driver → HeadLifecycle → HeadCompletion → Driver
 endingWith d l end = record { life = l; waiters = wakeCurrent end (d .life .current) (d .waiters) }
-
-unfoldable pub deliverAs : Driver → ReadAnchor → Hash → ℕ → Redelivery → Reply
-deliverAs d a p cold Redelivery.New = replyOf (endingWith d (delivered (d .life) a p cold) HeadCompletion.Superseded) (Answer.Ticket (nextSeq (d .life .seq)))
-deliverAs d a p cold (Redelivery.Of n) = replyOf (withLife d (counted (d .life) Counter.Repeated)) (Answer.Ticket n)
-
-unfoldable pub claimAs : Driver → ClaimStart → Reply
-claimAs d (ClaimStart.Claimed e) = replyOf (withLife d (claimed (d .life) e)) (Answer.Claimed e)
-claimAs d (ClaimStart.Refused o) = replyOf d (Answer.Outcome o)
 
 -- a view that is counted, and what is shown of it
 unfoldable pub viewed : Driver → HeadView → HeadView → Reply

@@ -1,30 +1,19 @@
-// From head_lifecycle.rs: `BalHeadDriver` and its calls. A call takes the driver by value and gives it back with its answer.
+// From head_lifecycle.rs: `BalHeadDriver`, and what its calls answer. A call takes the driver by value and gives it back with its answer.
 ghost use mathlib.Core.Path.{_≡_};
 ghost use Rattle.head_driver.specs.Answers.{Replies, outcomeSaid, said};
-ghost use Rattle.head_driver.specs.Calls.{deliver, claim, release, snapshot};
-ghost use Rattle.head_driver.specs.Parts.{replyOf, withLife, endingWith, deliverAs, claimAs, viewed};
-ghost use Rattle.head_life.specs.Claim.{released};
-ghost use Rattle.head_life.specs.State.{counted};
-use hash::Hash;
+ghost use Rattle.head_driver.specs.Parts.{replyOf, withLife, endingWith, viewed};
 use head_anchor::read_hub::Link;
 use head_anchor::storage_memo::AnchorSlot;
-use head_anchor::storage_memo::ReadAnchor;
-use head_count::head_lifecycle::Counter;
 use head_count::head_lifecycle::Epoch;
 use head_count::head_lifecycle::HeadCompletion;
 use head_count::head_lifecycle::HeadStats;
 use head_count::head_lifecycle::Seq;
 use head_count::head_lifecycle::WaiterSlot;
-use head_current::head_lifecycle::HeadTicket;
 use head_current::head_lifecycle::LastReport;
-use head_current::head_lifecycle::PrepareClaim;
-use head_current::head_lifecycle::Redelivery;
-use head_current::head_lifecycle::wake_current;
-use head_life::head_lifecycle::ClaimStart;
+use head_gate::head_lifecycle::HeadOutcome;
 use head_life::head_lifecycle::HeadLifecycle;
-use head_life::head_lifecycle::HeadOutcome;
-use head_life::head_lifecycle::HeadView;
-use head_view::head_lifecycle::lookup;
+use head_moves::head_lifecycle::wake_current;
+use head_ready::head_lifecycle::HeadView;
 
 pub struct Driver {
     pub life: HeadLifecycle,
@@ -119,77 +108,6 @@ pub fn ending(d: Driver, next: HeadLifecycle, end: HeadCompletion) -> Driver
     }
 }
 
-// A delivery that repeats the current head's.
-pub(crate) fn repeated(d: Driver, seq: Seq) -> Reply
-    ensures { λ r. ⌜ r ≡ replyOf (withLife d (counted (d .life) Counter.Repeated)) (Answer.Ticket seq) ⌝ }
-{
-    answered(
-        with_life(d, d.life.count(Counter::Repeated)),
-        Answer::Ticket(seq),
-    )
-}
-
-pub(crate) fn delivered(d: Driver, anchor: ReadAnchor, parent_hash: Hash, cold: u64) -> Reply
-    ensures { λ r. ⌜ r ≡ deliverAs d anchor «parent_hash» cold Redelivery.New ⌝ }
-{
-    let seq = d.life.seq.next();
-    answered(
-        ending(
-            d,
-            d.life.deliver(anchor, parent_hash, cold),
-            HeadCompletion::Superseded,
-        ),
-        Answer::Ticket(seq),
-    )
-}
-
-pub fn deliver(d: Driver, anchor: ReadAnchor, parent_hash: Hash, cold: u64) -> Reply
-    ensures { λ r. ⌜ Replies r (deliver d anchor «parent_hash» cold) ⌝ }
-{
-    let life = d.life;
-    let current = life.current;
-    match current.repeated_by(anchor, parent_hash) {
-        Redelivery::New => delivered(d, anchor, parent_hash, cold),
-        Redelivery::Of(seq) => repeated(d, seq),
-    }
-}
-
-pub(crate) fn claimed(d: Driver, epoch: Epoch) -> Reply
-    ensures { λ r. ⌜ r ≡ claimAs d (ClaimStart.Claimed epoch) ⌝ }
-{
-    answered(with_life(d, d.life.claimed(epoch)), Answer::Claimed(epoch))
-}
-
-pub fn claim(d: Driver, ticket: HeadTicket) -> Reply
-    ensures { λ r. ⌜ Replies r (claim d ticket) ⌝ }
-{
-    match d.life.claim(ticket) {
-        ClaimStart::Claimed(epoch) => claimed(d, epoch),
-        ClaimStart::Refused(outcome) => answered(d, Answer::Outcome(outcome)),
-    }
-}
-
-pub(crate) fn released(d: Driver) -> Reply
-    ensures { λ r. ⌜ r ≡ replyOf (endingWith d (released (d .life)) HeadCompletion.Abandoned) Answer.Done ⌝ }
-{
-    answered(
-        ending(d, d.life.release(), HeadCompletion::Abandoned),
-        Answer::Done,
-    )
-}
-
-pub fn release(d: Driver, claim: PrepareClaim) -> Reply
-    ensures { λ r. ⌜ Replies r (release d claim) ⌝ }
-{
-    let life = d.life;
-    let current = life.current;
-    if current.owned_by(claim) {
-        released(d)
-    } else {
-        answered(d, Answer::Done)
-    }
-}
-
 // Counts the view and answers what is shown of it.
 pub fn viewed(d: Driver, view: HeadView, shown: HeadView) -> Reply
     ensures { λ r. ⌜ r ≡ viewed d view shown ⌝ }
@@ -199,11 +117,4 @@ pub fn viewed(d: Driver, view: HeadView, shown: HeadView) -> Reply
         with_life(d, d.life.record_view(readiness)),
         Answer::View(shown),
     )
-}
-
-pub fn snapshot(d: Driver, anchor: ReadAnchor, spare: u64) -> Reply
-    ensures { λ r. ⌜ Replies r (snapshot d anchor spare) ⌝ }
-{
-    let view = lookup(d.life, anchor, spare);
-    viewed(d, view, view)
 }

@@ -1,3 +1,3 @@
-// The driver: the lifecycle with the sixteen waiters, what it answers, and the calls deliver, claim, release and snapshot.
-// Knows nothing of lines.
+// The driver: the lifecycle with the sixteen waiters, what it answers, and the steps that its calls share.
+// Knows nothing of the calls, nor of lines.
 pub mod head_lifecycle;

@@ -5,7 +5,7 @@ use Rattle.head_anchor.specs.declared.read_hub.CarryOutcome.{CarryOutcome}
 use Rattle.head_anchor.specs.declared.storage_memo.AnchorSlot.{AnchorSlot}
 use Rattle.head_count.specs.declared.head_lifecycle.HeadCompletion.{HeadCompletion}
 use Rattle.head_current.specs.declared.head_lifecycle.LastReport.{LastReport}
-use Rattle.head_life.specs.declared.head_lifecycle.Source.{Source}
+use Rattle.head_ready.specs.declared.head_lifecycle.Source.{Source}
 
 unfoldable pub isAt : AnchorSlot → Bool
 isAt AnchorSlot.Nothing = false

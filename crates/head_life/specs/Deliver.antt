@@ -6,7 +6,7 @@ use Rattle.head_anchor.specs.Anchors.{holds}
 use Rattle.head_count.specs.Attempts.{minted, settled}
 use Rattle.head_count.specs.Counters.{epochOf, nextSeq, raise}
 use Rattle.head_current.specs.Heads.{delivery, unsettled}
-use Rattle.head_current.specs.Moves.{settledOf}
+use Rattle.head_moves.specs.Moves.{settledOf}
 use Rattle.hash.specs.declared.Hash.{Hash}
 use Rattle.head_anchor.specs.declared.storage_memo.AnchorSlot.{AnchorSlot}
 use Rattle.head_anchor.specs.declared.storage_memo.ReadAnchor.{ReadAnchor}
@@ -17,7 +17,7 @@ use Rattle.head_current.specs.declared.head_lifecycle.CurrentHead.{CurrentHead}
 use Rattle.head_current.specs.declared.head_lifecycle.DeliverySlot.{DeliverySlot}
 use Rattle.head_current.specs.declared.head_lifecycle.HeadDelivery.{HeadDelivery}
 use Rattle.head_current.specs.declared.head_lifecycle.LastReport.{LastReport}
-use Rattle.head_life.specs.Generations.{slotAnchor}
+use Rattle.head_ready.specs.Generations.{slotAnchor}
 use Rattle.head_life.specs.declared.head_lifecycle.HeadLifecycle.{HeadLifecycle}
 
 -- a replaced head's anchor becomes the superseded anchor

@@ -9,10 +9,10 @@ use Rattle.head_count.specs.declared.head_lifecycle.Counter.{Counter}
 use Rattle.head_count.specs.declared.head_lifecycle.HeadCompletion.{HeadCompletion}
 use Rattle.head_count.specs.declared.head_lifecycle.HeadStats.{HeadStats}
 use Rattle.head_current.specs.declared.head_lifecycle.CurrentHead.{CurrentHead}
-use Rattle.head_life.specs.Generations.{isReady}
-use Rattle.head_life.specs.declared.delta_snapshot.GenerationSlot.{GenerationSlot}
+use Rattle.head_ready.specs.Generations.{isReady}
+use Rattle.head_ready.specs.declared.delta_snapshot.GenerationSlot.{GenerationSlot}
 use Rattle.head_life.specs.declared.head_lifecycle.HeadLifecycle.{HeadLifecycle}
-use Rattle.head_life.specs.declared.head_lifecycle.HeadReadiness.{HeadReadiness}
+use Rattle.head_ready.specs.declared.head_lifecycle.HeadReadiness.{HeadReadiness}
 
 -- no current head, no superseded anchor, nothing installed or previous, all counters 0
 unfoldable pub noHead : HeadLifecycle

@@ -1,20 +1,14 @@
-// From head_lifecycle.rs: `HeadCold`, `HeadReadiness`, `HeadView`, `HeadOutcome`, `ClaimStart`, `ApplyPlan`, and `HeadLifecycle` with its methods by value.
+// From head_lifecycle.rs: `HeadLifecycle` with its methods by value.
 ghost use mathlib.Core.Path.{_≡_};
-ghost use Rattle.head_life.specs.Generations.{settledReadiness, isReady};
 ghost use Rattle.head_life.specs.Deliver.{replaced, countReplaced, countDelivery, newHead, delivered};
-ghost use Rattle.head_life.specs.Claim.{claimGate, claimStartAt, claimStart, claimed, released};
-ghost use Rattle.head_life.specs.Apply.{planHeld, planAt, planApply, settle};
+ghost use Rattle.head_life.specs.Claim.{claimStart, withHead, claimed, released};
+ghost use Rattle.head_life.specs.Apply.{planApply, settle};
 ghost use Rattle.head_life.specs.State.{noHead, counted, viewCounted, endAt};
-use crate::delta_snapshot::Generation;
-use crate::delta_snapshot::GenerationSlot;
 use hash::Hash;
-use head_anchor::bal_prefetch::BalSkip;
 use head_anchor::read_hub::CarryOutcome;
-use head_anchor::read_hub::Link;
 use head_anchor::storage_memo::AnchorSlot;
 use head_anchor::storage_memo::ReadAnchor;
 use head_anchor::storage_memo::holds;
-use head_anchor::storage_memo::same_anchor;
 use head_count::head_lifecycle::ClaimAttempt;
 use head_count::head_lifecycle::Counter;
 use head_count::head_lifecycle::Epoch;
@@ -28,53 +22,18 @@ use head_current::head_lifecycle::HeadTicket;
 use head_current::head_lifecycle::LastReport;
 use head_current::head_lifecycle::SettledHead;
 use head_current::head_lifecycle::UnsettledHead;
-
-pub enum HeadCold {
-    Unprepared,
-    Superseded,
-    Undelivered,
-    Abandoned,
-    Settled(Link, BalSkip),
-}
-
-pub enum HeadReadiness {
-    Ready,
-    Cold(HeadCold),
-}
-
-// Where a view's handle comes from.
-pub enum Source {
-    Installed,
-    Provisional,
-    Previous,
-    Spare,
-}
-
-pub struct HeadView {
-    pub source: Source,
-    pub handle: u64,
-    pub readiness: HeadReadiness,
-}
-
-pub enum HeadOutcome {
-    Settled(CarryOutcome),
-    AlreadySettled,
-    InFlight,
-    Superseded(ReadAnchor),
-    Foreign(ReadAnchor, ReadAnchor),
-}
-
-pub enum ClaimStart {
-    Claimed(Epoch),
-    Refused(HeadOutcome),
-}
-
-// A refusal that is counted as discarded stands apart from one that is not.
-pub enum ApplyPlan {
-    Refused(HeadOutcome),
-    Discarded(HeadOutcome),
-    Admitted(HeadDelivery),
-}
+use head_gate::head_lifecycle::ApplyPlan;
+use head_gate::head_lifecycle::ClaimStart;
+use head_gate::head_lifecycle::claim_start;
+use head_gate::head_lifecycle::plan_at;
+use head_moves::head_lifecycle::claimed_head;
+use head_moves::head_lifecycle::released_head;
+use head_moves::head_lifecycle::settled_head;
+use head_moves::head_lifecycle::settling_epoch;
+use head_ready::delta_snapshot::Generation;
+use head_ready::delta_snapshot::GenerationSlot;
+use head_ready::head_lifecycle::HeadReadiness;
+use head_ready::head_lifecycle::settled_readiness;
 
 pub struct HeadLifecycle {
     pub current: CurrentHead,
@@ -84,26 +43,6 @@ pub struct HeadLifecycle {
     pub seq: Seq,
     pub claim_epoch: Epoch,
     pub stats: HeadStats,
-}
-
-pub(crate) fn settled_readiness(outcome: CarryOutcome) -> HeadReadiness
-    ensures { λ r. ⌜ r ≡ settledReadiness outcome ⌝ }
-{
-    match outcome {
-        CarryOutcome::Carried(_) => HeadReadiness::Ready,
-        CarryOutcome::Cold(link, skip) => HeadReadiness::Cold(HeadCold::Settled(link, skip)),
-    }
-}
-
-impl HeadReadiness {
-    pub fn is_ready(self) -> bool
-        ensures { λ r. ⌜ r ≡ isReady self ⌝ }
-    {
-        match self {
-            HeadReadiness::Ready => true,
-            HeadReadiness::Cold(_) => false,
-        }
-    }
 }
 
 // The superseded anchor after a delivery that replaces what was held.
@@ -146,115 +85,18 @@ pub(crate) fn new_head(here: bool, delivery: HeadDelivery, cold: u64) -> Current
 {
     if here {
         let attempt = ClaimAttempt::settled(Epoch(0));
-        CurrentHead::Settled(SettledHead {
+        return CurrentHead::Settled(SettledHead {
             delivery,
             report: LastReport::Nothing,
             attempt,
-        })
-    } else {
-        let attempt = ClaimAttempt::minted(Epoch(0));
-        CurrentHead::Unclaimed(UnsettledHead {
-            delivery,
-            provisional: cold,
-            attempt,
-        })
+        });
     }
-}
-
-// What a claim of a head with that delivery starts: `next` where the ticket is the head's and the head is not installed.
-pub(crate) fn claim_gate(
-    installed: AnchorSlot,
-    held: HeadDelivery,
-    ticket: HeadTicket,
-    next: ClaimStart,
-) -> ClaimStart
-    ensures { λ r. ⌜ r ≡ claimGate installed held ticket next ⌝ }
-{
-    if held.has_ticket(ticket) {
-        if holds(installed, ticket.anchor) {
-            ClaimStart::Refused(HeadOutcome::AlreadySettled)
-        } else {
-            next
-        }
-    } else {
-        let anchor = held.anchor;
-        ClaimStart::Refused(HeadOutcome::Superseded(anchor))
-    }
-}
-
-pub(crate) fn claim_start(
-    installed: AnchorSlot,
-    epoch: Epoch,
-    current: CurrentHead,
-    ticket: HeadTicket,
-) -> ClaimStart
-    ensures { λ r. ⌜ r ≡ claimStartAt installed epoch current ticket ⌝ }
-{
-    match current {
-        CurrentHead::Absent => {
-            let anchor = ticket.anchor;
-            ClaimStart::Refused(HeadOutcome::Superseded(anchor))
-        }
-        CurrentHead::Unclaimed(u) => claim_gate(
-            installed,
-            u.delivery,
-            ticket,
-            ClaimStart::Claimed(epoch.next()),
-        ),
-        CurrentHead::Preparing(u) => claim_gate(
-            installed,
-            u.delivery,
-            ticket,
-            ClaimStart::Refused(HeadOutcome::InFlight),
-        ),
-        CurrentHead::Settled(s) => claim_gate(
-            installed,
-            s.delivery,
-            ticket,
-            ClaimStart::Refused(HeadOutcome::AlreadySettled),
-        ),
-    }
-}
-
-pub(crate) fn plan_held(
-    installed: AnchorSlot,
-    held: HeadDelivery,
-    ticket: HeadTicket,
-    prepared: ReadAnchor,
-) -> ApplyPlan
-    ensures { λ r. ⌜ r ≡ planHeld installed held ticket prepared ⌝ }
-{
-    let anchor = held.anchor;
-    if held.has_ticket(ticket) {
-        if same_anchor(prepared, anchor) {
-            if holds(installed, anchor) {
-                ApplyPlan::Refused(HeadOutcome::AlreadySettled)
-            } else {
-                ApplyPlan::Admitted(held)
-            }
-        } else {
-            ApplyPlan::Discarded(HeadOutcome::Foreign(prepared, anchor))
-        }
-    } else {
-        ApplyPlan::Discarded(HeadOutcome::Superseded(anchor))
-    }
-}
-
-pub(crate) fn plan_at(
-    installed: AnchorSlot,
-    slot: DeliverySlot,
-    ticket: HeadTicket,
-    prepared: ReadAnchor,
-) -> ApplyPlan
-    ensures { λ r. ⌜ r ≡ planAt installed slot ticket prepared ⌝ }
-{
-    match slot {
-        DeliverySlot::Nothing => {
-            let anchor = ticket.anchor;
-            ApplyPlan::Discarded(HeadOutcome::Superseded(anchor))
-        }
-        DeliverySlot::Held(held) => plan_held(installed, held, ticket, prepared),
-    }
+    let attempt = ClaimAttempt::minted(Epoch(0));
+    CurrentHead::Unclaimed(UnsettledHead {
+        delivery,
+        provisional: cold,
+        attempt,
+    })
 }
 
 impl HeadLifecycle {
@@ -275,15 +117,17 @@ impl HeadLifecycle {
     pub fn count(self, counter: Counter) -> HeadLifecycle
         ensures { λ r. ⌜ r ≡ counted self counter ⌝ }
     {
-        let stats = self.stats.raise(counter);
-        HeadLifecycle { stats, ..self }
+        let mut next = self;
+        next.stats = self.stats.raise(counter);
+        next
     }
 
     pub fn record_view(self, readiness: HeadReadiness) -> HeadLifecycle
         ensures { λ r. ⌜ r ≡ viewCounted self readiness ⌝ }
     {
-        let stats = self.stats.with_view(readiness.is_ready());
-        HeadLifecycle { stats, ..self }
+        let mut next = self;
+        next.stats = self.stats.with_view(readiness.is_ready());
+        next
     }
 
     // A delivery that does not repeat the current head.
@@ -321,16 +165,22 @@ impl HeadLifecycle {
         claim_start(installed.anchor(), self.claim_epoch, current, ticket)
     }
 
+    // Another current head, and the epoch counter that goes with it.
+    pub(crate) fn with_head(self, current: CurrentHead, claim_epoch: Epoch) -> HeadLifecycle
+        ensures { λ r. ⌜ r ≡ withHead self current «claim_epoch» ⌝ }
+    {
+        HeadLifecycle {
+            current,
+            claim_epoch,
+            ..self
+        }
+    }
+
     pub fn claimed(self, epoch: Epoch) -> HeadLifecycle
         ensures { λ r. ⌜ r ≡ claimed self epoch ⌝ }
     {
         let old = self.current;
-        let current = old.claimed(epoch);
-        HeadLifecycle {
-            current,
-            claim_epoch: epoch,
-            ..self
-        }
+        self.with_head(claimed_head(old, epoch), epoch)
     }
 
     // The caller has seen that the claim owns the head.
@@ -338,8 +188,7 @@ impl HeadLifecycle {
         ensures { λ r. ⌜ r ≡ released self ⌝ }
     {
         let old = self.current;
-        let current = old.released();
-        HeadLifecycle { current, ..self }
+        self.with_head(released_head(old), self.claim_epoch)
     }
 
     pub fn plan_apply(self, ticket: HeadTicket, prepared: ReadAnchor) -> ApplyPlan
@@ -362,8 +211,8 @@ impl HeadLifecycle {
     {
         let old = self.current;
         let prior = self.installed;
-        let claim_epoch = old.settling_epoch(self.claim_epoch);
-        let current = old.settled(claim_epoch, LastReport::Made(outcome, report));
+        let claim_epoch = settling_epoch(old, self.claim_epoch);
+        let current = settled_head(old, claim_epoch, LastReport::Made(outcome, report));
         let readiness = settled_readiness(outcome);
         let installed = GenerationSlot::Held(Generation {
             anchor,

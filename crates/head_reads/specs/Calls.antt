@@ -6,7 +6,7 @@ use Rattle.head_anchor.specs.Links.{classifyLink}
 use Rattle.head_count.specs.Waiters.{slotOf}
 use Rattle.head_current.specs.Heads.{anchorOf, delivery, lastReport}
 use Rattle.head_driver.specs.Parts.{replyOf}
-use Rattle.head_life.specs.Generations.{slotAnchor}
+use Rattle.head_ready.specs.Generations.{slotAnchor}
 use Rattle.head_life.specs.State.{endAt, noHead}
 use Rattle.hash.specs.declared.Hash.{Hash}
 use Rattle.head_anchor.specs.declared.storage_memo.AnchorSlot.{AnchorSlot}

@@ -4,7 +4,7 @@ use lib.Dec.{ltb}
 use Rattle.hash.specs.Logic.{if}
 use Rattle.head_anchor.specs.Lists.{asPrepared}
 use Rattle.head_apply.specs.Apply.{apply}
-use Rattle.head_driver.specs.Calls.{claim, deliver, release, snapshot}
+use Rattle.head_calls.specs.Calls.{claim, deliver, release, snapshot}
 use Rattle.head_reads.specs.Calls.{completion, heads, link, report, stats}
 use Rattle.head_waits.specs.Calls.{resume, wait}
 use Rattle.head_anchor.specs.declared.read_hub.PreparedBal.{PreparedBal}

@@ -10,16 +10,16 @@ use head_anchor::read_hub::as_prepared;
 use head_anchor::storage_memo::AnchorSlot;
 use head_anchor::storage_memo::ReadAnchor;
 use head_apply::head_lifecycle::apply;
+use head_calls::head_lifecycle::claim;
+use head_calls::head_lifecycle::deliver;
+use head_calls::head_lifecycle::release;
+use head_calls::head_lifecycle::snapshot;
 use head_current::head_lifecycle::HeadTicket;
 use head_current::head_lifecycle::PrepareClaim;
 use head_driver::head_lifecycle::Answer;
 use head_driver::head_lifecycle::Driver;
 use head_driver::head_lifecycle::Reply;
 use head_driver::head_lifecycle::answered;
-use head_driver::head_lifecycle::claim;
-use head_driver::head_lifecycle::deliver;
-use head_driver::head_lifecycle::release;
-use head_driver::head_lifecycle::snapshot;
 use head_reads::head_lifecycle::completion;
 use head_reads::head_lifecycle::heads;
 use head_reads::head_lifecycle::link;
@@ -89,18 +89,18 @@ pub fn input_refusal(call: Call) -> InputRefusal
     ensures { λ r. ⌜ r ≡ inputRefusal call ⌝ }
 {
     match call {
-        Call::Deliver(_, _, _) => InputRefusal::Nothing,
-        Call::Claim(_) => InputRefusal::Nothing,
-        Call::Release(_) => InputRefusal::Nothing,
-        Call::Apply(_, list, _, _, _) => list_refusal(list),
-        Call::Snapshot(_, _) => InputRefusal::Nothing,
-        Call::Wait(n, _, _) => waiter_refusal(n),
-        Call::Resume(n, _) => waiter_refusal(n),
-        Call::Completion(_) => InputRefusal::Nothing,
-        Call::Link(_, _, _) => InputRefusal::Nothing,
-        Call::Report => InputRefusal::Nothing,
-        Call::Stats => InputRefusal::Nothing,
-        Call::Heads => InputRefusal::Nothing,
+        Call::Deliver(_, _, _) => return InputRefusal::Nothing,
+        Call::Claim(_) => return InputRefusal::Nothing,
+        Call::Release(_) => return InputRefusal::Nothing,
+        Call::Apply(_, list, _, _, _) => return list_refusal(list),
+        Call::Snapshot(_, _) => return InputRefusal::Nothing,
+        Call::Wait(n, _, _) => return waiter_refusal(n),
+        Call::Resume(n, _) => return waiter_refusal(n),
+        Call::Completion(_) => return InputRefusal::Nothing,
+        Call::Link(_, _, _) => return InputRefusal::Nothing,
+        Call::Report => return InputRefusal::Nothing,
+        Call::Stats => return InputRefusal::Nothing,
+        Call::Heads => return InputRefusal::Nothing,
     }
 }
 
@@ -109,10 +109,10 @@ pub(crate) fn dispatch(d: Driver, call: Call) -> Reply
     ensures { λ r. ⌜ r ≡ dispatch d call ⌝ }
 {
     match call {
-        Call::Deliver(anchor, parent_hash, cold) => deliver(d, anchor, parent_hash, cold),
-        Call::Claim(ticket) => claim(d, ticket),
-        Call::Release(owner) => release(d, owner),
-        Call::Apply(ticket, list, handle, carried, made) => apply(
+        Call::Deliver(anchor, parent_hash, cold) => return deliver(d, anchor, parent_hash, cold),
+        Call::Claim(ticket) => return claim(d, ticket),
+        Call::Release(owner) => return release(d, owner),
+        Call::Apply(ticket, list, handle, carried, made) => return apply(
             d,
             ticket,
             list,
@@ -120,14 +120,14 @@ pub(crate) fn dispatch(d: Driver, call: Call) -> Reply
             carried,
             made,
         ),
-        Call::Snapshot(anchor, spare) => snapshot(d, anchor, spare),
-        Call::Wait(n, anchor, spare) => wait(d, n, anchor, spare),
-        Call::Resume(n, spare) => resume(d, n, spare),
-        Call::Completion(anchor) => completion(d, anchor),
-        Call::Link(parent, child, parent_hash) => link(d, parent, child, parent_hash),
-        Call::Report => report(d),
-        Call::Stats => stats(d),
-        Call::Heads => heads(d),
+        Call::Snapshot(anchor, spare) => return snapshot(d, anchor, spare),
+        Call::Wait(n, anchor, spare) => return wait(d, n, anchor, spare),
+        Call::Resume(n, spare) => return resume(d, n, spare),
+        Call::Completion(anchor) => return completion(d, anchor),
+        Call::Link(parent, child, parent_hash) => return link(d, parent, child, parent_hash),
+        Call::Report => return report(d),
+        Call::Stats => return stats(d),
+        Call::Heads => return heads(d),
     }
 }
 
@@ -135,8 +135,8 @@ pub fn step(d: Driver, call: Call) -> Reply
     ensures { λ r. ⌜ Replies r (step d call) ⌝ }
 {
     match input_refusal(call) {
-        InputRefusal::Nothing => dispatch(d, call),
-        InputRefusal::ListAtOdds => answered(d, Answer::ListAtOdds),
-        InputRefusal::WaiterOutOfRange => answered(d, Answer::WaiterOutOfRange),
+        InputRefusal::Nothing => return dispatch(d, call),
+        InputRefusal::ListAtOdds => return answered(d, Answer::ListAtOdds),
+        InputRefusal::WaiterOutOfRange => return answered(d, Answer::WaiterOutOfRange),
     }
 }

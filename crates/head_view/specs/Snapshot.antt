@@ -9,12 +9,12 @@ use Rattle.head_anchor.specs.declared.storage_memo.AnchorSlot.{AnchorSlot}
 use Rattle.head_anchor.specs.declared.storage_memo.ReadAnchor.{ReadAnchor}
 use Rattle.head_current.specs.declared.head_lifecycle.CurrentHead.{CurrentHead}
 use Rattle.head_current.specs.declared.head_lifecycle.UnsettledHead.{UnsettledHead}
-use Rattle.head_life.specs.declared.delta_snapshot.GenerationSlot.{GenerationSlot}
-use Rattle.head_life.specs.declared.head_lifecycle.HeadCold.{HeadCold}
+use Rattle.head_ready.specs.declared.delta_snapshot.GenerationSlot.{GenerationSlot}
+use Rattle.head_ready.specs.declared.head_lifecycle.HeadCold.{HeadCold}
 use Rattle.head_life.specs.declared.head_lifecycle.HeadLifecycle.{HeadLifecycle}
-use Rattle.head_life.specs.declared.head_lifecycle.HeadReadiness.{HeadReadiness}
-use Rattle.head_life.specs.declared.head_lifecycle.HeadView.{HeadView}
-use Rattle.head_life.specs.declared.head_lifecycle.Source.{Source}
+use Rattle.head_ready.specs.declared.head_lifecycle.HeadReadiness.{HeadReadiness}
+use Rattle.head_ready.specs.declared.head_lifecycle.HeadView.{HeadView}
+use Rattle.head_ready.specs.declared.head_lifecycle.Source.{Source}
 
 abbrev pub viewOf : Source → ℕ → HeadReadiness → HeadView
 viewOf source handle readiness = record { source = source; handle = handle; readiness = readiness }

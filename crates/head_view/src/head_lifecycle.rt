@@ -7,12 +7,12 @@ use head_anchor::storage_memo::holds;
 use head_anchor::storage_memo::same_anchor;
 use head_current::head_lifecycle::CurrentHead;
 use head_current::head_lifecycle::UnsettledHead;
-use head_life::delta_snapshot::GenerationSlot;
-use head_life::head_lifecycle::HeadCold;
 use head_life::head_lifecycle::HeadLifecycle;
-use head_life::head_lifecycle::HeadReadiness;
-use head_life::head_lifecycle::HeadView;
-use head_life::head_lifecycle::Source;
+use head_ready::delta_snapshot::GenerationSlot;
+use head_ready::head_lifecycle::HeadCold;
+use head_ready::head_lifecycle::HeadReadiness;
+use head_ready::head_lifecycle::HeadView;
+use head_ready::head_lifecycle::Source;
 
 pub(crate) fn spare_reason(superseded: bool) -> HeadCold
     ensures { λ r. ⌜ r ≡ spareReason superseded ⌝ }

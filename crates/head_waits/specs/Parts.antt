@@ -6,7 +6,7 @@ use Rattle.hash.specs.Logic.{if}
 use Rattle.head_count.specs.Waiters.{slotOf}
 use Rattle.head_current.specs.Heads.{preparingAt}
 use Rattle.head_driver.specs.Parts.{replyOf, viewed}
-use Rattle.head_life.specs.Generations.{isReady}
+use Rattle.head_ready.specs.Generations.{isReady}
 use Rattle.head_view.specs.Snapshot.{view, viewOf}
 use Rattle.head_anchor.specs.declared.storage_memo.ReadAnchor.{ReadAnchor}
 use Rattle.head_count.specs.declared.head_lifecycle.Waiter.{Waiter}
@@ -14,10 +14,10 @@ use Rattle.head_count.specs.declared.head_lifecycle.WaiterSlot.{WaiterSlot}
 use Rattle.head_driver.specs.declared.head_lifecycle.Answer.{Answer}
 use Rattle.head_driver.specs.declared.head_lifecycle.Driver.{Driver}
 use Rattle.head_driver.specs.declared.head_lifecycle.Reply.{Reply}
-use Rattle.head_life.specs.declared.head_lifecycle.HeadCold.{HeadCold}
-use Rattle.head_life.specs.declared.head_lifecycle.HeadReadiness.{HeadReadiness}
-use Rattle.head_life.specs.declared.head_lifecycle.HeadView.{HeadView}
-use Rattle.head_life.specs.declared.head_lifecycle.Source.{Source}
+use Rattle.head_ready.specs.declared.head_lifecycle.HeadCold.{HeadCold}
+use Rattle.head_ready.specs.declared.head_lifecycle.HeadReadiness.{HeadReadiness}
+use Rattle.head_ready.specs.declared.head_lifecycle.HeadView.{HeadView}
+use Rattle.head_ready.specs.declared.head_lifecycle.Source.{Source}
 
 -- `unprepared` shown as `abandoned`
 unfoldable pub unownedReason : HeadCold → HeadCold

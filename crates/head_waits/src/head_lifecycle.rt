@@ -1,6 +1,7 @@
 // From head_lifecycle.rs: `BalHeadDriver::wait_for_head` and `abandoned_view`. A poll of its future is a call here: the first one `wait`, each later one `resume`.
 ghost use mathlib.Core.Path.{_≡_};
 ghost use lib.ListN.{set};
+ghost use Rattle.head_current.specs.Heads.{preparingAt};
 ghost use Rattle.head_driver.specs.Answers.{Replies};
 ghost use Rattle.head_driver.specs.Parts.{replyOf};
 ghost use Rattle.head_waits.specs.Parts.{unownedReason, unownedReadiness, unowned, abandonedView, waiterAt, put, viewedBy, join, waitAs, resumeAs};
@@ -13,10 +14,11 @@ use head_driver::head_lifecycle::Driver;
 use head_driver::head_lifecycle::Reply;
 use head_driver::head_lifecycle::answered;
 use head_driver::head_lifecycle::viewed;
-use head_life::head_lifecycle::HeadCold;
-use head_life::head_lifecycle::HeadReadiness;
-use head_life::head_lifecycle::HeadView;
-use head_life::head_lifecycle::Source;
+use head_life::head_lifecycle::HeadLifecycle;
+use head_ready::head_lifecycle::HeadCold;
+use head_ready::head_lifecycle::HeadReadiness;
+use head_ready::head_lifecycle::HeadView;
+use head_ready::head_lifecycle::Source;
 use head_view::head_lifecycle::lookup;
 
 pub(crate) fn unowned_reason(reason: HeadCold) -> HeadCold
@@ -127,27 +129,32 @@ pub(crate) fn view_unowned(d: Driver, n: u64, view: HeadView) -> Reply
     viewed_by(d, n, view, unowned(view))
 }
 
+// Whether a preparation is live at that anchor.
+pub(crate) fn preparing_at(life: HeadLifecycle, anchor: ReadAnchor) -> bool
+    ensures { λ r. ⌜ r ≡ preparingAt (life .current) anchor ⌝ }
+{
+    let current = life.current;
+    current.preparing_at(anchor)
+}
+
 // One turn of the Rust's loop: park on the live preparation at that anchor, or answer.
 pub(crate) fn join(d: Driver, n: u64, anchor: ReadAnchor, spare: u64) -> Reply
     ensures { λ r. ⌜ r ≡ join d n anchor spare ⌝ }
 {
-    let life = d.life;
-    let current = life.current;
-    if current.preparing_at(anchor) {
-        park(d, n)
-    } else {
-        view_unowned(d, n, lookup(d.life, anchor, spare))
+    if preparing_at(d.life, anchor) {
+        return park(d, n);
     }
+    view_unowned(d, n, lookup(d.life, anchor, spare))
 }
 
 pub(crate) fn wait_as(d: Driver, waiter: Waiter, n: u64, anchor: ReadAnchor, spare: u64) -> Reply
     ensures { λ r. ⌜ r ≡ waitAs d waiter n anchor spare ⌝ }
 {
     match waiter {
-        Waiter::Free => join(d, n, anchor, spare),
-        Waiter::Parked => answered(d, Answer::WaiterTaken),
-        Waiter::Abandoned(_) => answered(d, Answer::WaiterTaken),
-        Waiter::Ended(_) => answered(d, Answer::WaiterTaken),
+        Waiter::Free => return join(d, n, anchor, spare),
+        Waiter::Parked => return answered(d, Answer::WaiterTaken),
+        Waiter::Abandoned(_) => return answered(d, Answer::WaiterTaken),
+        Waiter::Ended(_) => return answered(d, Answer::WaiterTaken),
     }
 }
 
@@ -156,10 +163,9 @@ pub fn wait(d: Driver, n: u64, anchor: ReadAnchor, spare: u64) -> Reply
 {
     let waiters = d.waiters;
     if n < 16 {
-        wait_as(d, waiter_at(waiters, n), n, anchor, spare)
-    } else {
-        answered(d, Answer::WaiterOutOfRange)
+        return wait_as(d, waiter_at(waiters, n), n, anchor, spare);
     }
+    answered(d, Answer::WaiterOutOfRange)
 }
 
 pub(crate) fn view_abandoned(d: Driver, n: u64, view: HeadView, spare: u64) -> Reply
@@ -172,10 +178,15 @@ pub(crate) fn resume_as(d: Driver, waiter: Waiter, n: u64, spare: u64) -> Reply
     ensures { λ r. ⌜ r ≡ resumeAs d waiter n spare ⌝ }
 {
     match waiter {
-        Waiter::Free => answered(d, Answer::WaiterFree),
-        Waiter::Parked => answered(d, Answer::Parked),
-        Waiter::Abandoned(anchor) => view_abandoned(d, n, lookup(d.life, anchor, spare), spare),
-        Waiter::Ended(anchor) => join(d, n, anchor, spare),
+        Waiter::Free => return answered(d, Answer::WaiterFree),
+        Waiter::Parked => return answered(d, Answer::Parked),
+        Waiter::Abandoned(anchor) => return view_abandoned(
+            d,
+            n,
+            lookup(d.life, anchor, spare),
+            spare,
+        ),
+        Waiter::Ended(anchor) => return join(d, n, anchor, spare),
     }
 }
 
@@ -184,8 +195,7 @@ pub fn resume(d: Driver, n: u64, spare: u64) -> Reply
 {
     let waiters = d.waiters;
     if n < 16 {
-        resume_as(d, waiter_at(waiters, n), n, spare)
-    } else {
-        answered(d, Answer::WaiterOutOfRange)
+        return resume_as(d, waiter_at(waiters, n), n, spare);
     }
+    answered(d, Answer::WaiterOutOfRange)
 }

@@ -3,8 +3,9 @@ use Prim.Native.Nat.{ℕ}
 use mathlib.Core.Path.{_≡_, refl, ap, _∙_}
 use Rattle.alike.proofs.Tests.{anchor-same}
 use Rattle.head_current.specs.Heads.{delivery, repeats}
-use Rattle.head_driver.specs.Calls.{deliver, snapshot}
-use Rattle.head_driver.specs.Parts.{deliverAs, viewed, withLife}
+use Rattle.head_calls.specs.Calls.{deliver, snapshot}
+use Rattle.head_driver.specs.Parts.{viewed, withLife}
+use Rattle.head_calls.specs.Parts.{deliverAs}
 use Rattle.head_life.specs.Deliver.{delivered}
 use Rattle.head_life.specs.State.{counted}
 use Rattle.head_step.specs.Dispatch.{dispatch}
@@ -16,11 +17,11 @@ use Rattle.head_anchor.specs.declared.storage_memo.ReadAnchor.{ReadAnchor}
 use Rattle.head_current.specs.declared.head_lifecycle.Redelivery.{Redelivery}
 use Rattle.head_driver.specs.declared.head_lifecycle.Answer.{Answer}
 use Rattle.head_driver.specs.declared.head_lifecycle.Driver.{Driver}
-use Rattle.head_life.specs.declared.delta_snapshot.Generation.{Generation}
-use Rattle.head_life.specs.declared.delta_snapshot.GenerationSlot.{GenerationSlot}
+use Rattle.head_ready.specs.declared.delta_snapshot.Generation.{Generation}
+use Rattle.head_ready.specs.declared.delta_snapshot.GenerationSlot.{GenerationSlot}
 use Rattle.head_life.specs.declared.head_lifecycle.HeadLifecycle.{HeadLifecycle}
-use Rattle.head_life.specs.declared.head_lifecycle.HeadView.{HeadView}
-use Rattle.head_life.specs.declared.head_lifecycle.Source.{Source}
+use Rattle.head_ready.specs.declared.head_lifecycle.HeadView.{HeadView}
+use Rattle.head_ready.specs.declared.head_lifecycle.Source.{Source}
 use Rattle.redelivered.specs.Statements.{ShownAsSettled}
 
 -- whether the delivery repeats the current head or is new, what is installed stays

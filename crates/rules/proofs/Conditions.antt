@@ -12,7 +12,7 @@ use Rattle.head_anchor.specs.Anchors.{holds, sameAnchor}
 use Rattle.head_anchor.specs.Lists.{asPrepared, hasHash, isNoHash}
 use Rattle.head_count.specs.Counters.{sameSeq}
 use Rattle.head_current.specs.Heads.{ticketOf}
-use Rattle.head_life.specs.Generations.{slotAnchor}
+use Rattle.head_ready.specs.Generations.{slotAnchor}
 use Rattle.hash.specs.declared.Hash.{Hash}
 use Rattle.head_anchor.specs.declared.bal_prefetch.BalSkip.{BalSkip}
 use Rattle.head_anchor.specs.declared.read_hub.PreparedBal.{PreparedBal}
@@ -22,7 +22,7 @@ use Rattle.head_anchor.specs.declared.storage_memo.ReadAnchor.{ReadAnchor}
 use Rattle.head_current.specs.declared.head_lifecycle.DeliverySlot.{DeliverySlot}
 use Rattle.head_current.specs.declared.head_lifecycle.HeadDelivery.{HeadDelivery}
 use Rattle.head_current.specs.declared.head_lifecycle.HeadTicket.{HeadTicket}
-use Rattle.head_life.specs.declared.delta_snapshot.GenerationSlot.{GenerationSlot}
+use Rattle.head_ready.specs.declared.delta_snapshot.GenerationSlot.{GenerationSlot}
 use Rattle.rules.specs.Refusals.{HeadInstalled}
 
 -- ---- the list

@@ -13,12 +13,14 @@ use Rattle.head_apply.specs.Apply.{apply}
 use Rattle.head_apply.specs.Parts.{applyAs, settleAs}
 use Rattle.head_count.specs.Counters.{nextEpoch, nextSeq}
 use Rattle.head_current.specs.Heads.{anchorOf, delivery, lastReport, preparingAt, redelivery, repeats, sameDelivery, ticketOf}
-use Rattle.head_current.specs.Moves.{ownedBy}
-use Rattle.head_driver.specs.Calls.{claim, deliver, release, snapshot}
-use Rattle.head_driver.specs.Parts.{claimAs, deliverAs, viewed}
-use Rattle.head_life.specs.Apply.{planAt, planApply, planHeld}
-use Rattle.head_life.specs.Claim.{claimGate, claimStart, claimStartAt}
-use Rattle.head_life.specs.Generations.{isReady, slotAnchor}
+use Rattle.head_moves.specs.Moves.{ownedBy}
+use Rattle.head_calls.specs.Calls.{claim, deliver, release, snapshot}
+use Rattle.head_driver.specs.Parts.{viewed}
+use Rattle.head_calls.specs.Parts.{claimAs, deliverAs}
+use Rattle.head_life.specs.Apply.{planApply}
+use Rattle.head_gate.specs.Gates.{planAt, planHeld, claimGate, claimStartAt}
+use Rattle.head_life.specs.Claim.{claimStart}
+use Rattle.head_ready.specs.Generations.{isReady, slotAnchor}
 use Rattle.head_reads.specs.Calls.{completion, heads, link, report, stats}
 use Rattle.head_step.proofs.Asked.{asked}
 use Rattle.head_step.specs.Dispatch.{dispatch}
@@ -41,14 +43,14 @@ use Rattle.head_current.specs.declared.head_lifecycle.HeadTicket.{HeadTicket}
 use Rattle.head_current.specs.declared.head_lifecycle.UnsettledHead.{UnsettledHead}
 use Rattle.head_driver.specs.declared.head_lifecycle.Driver.{Driver}
 use Rattle.head_driver.specs.declared.head_lifecycle.Reply.{Reply}
-use Rattle.head_life.specs.declared.delta_snapshot.GenerationSlot.{GenerationSlot}
-use Rattle.head_life.specs.declared.head_lifecycle.ApplyPlan.{ApplyPlan}
-use Rattle.head_life.specs.declared.head_lifecycle.ClaimStart.{ClaimStart}
-use Rattle.head_life.specs.declared.head_lifecycle.HeadCold.{HeadCold}
+use Rattle.head_ready.specs.declared.delta_snapshot.GenerationSlot.{GenerationSlot}
+use Rattle.head_gate.specs.declared.head_lifecycle.ApplyPlan.{ApplyPlan}
+use Rattle.head_gate.specs.declared.head_lifecycle.ClaimStart.{ClaimStart}
+use Rattle.head_ready.specs.declared.head_lifecycle.HeadCold.{HeadCold}
 use Rattle.head_life.specs.declared.head_lifecycle.HeadLifecycle.{HeadLifecycle}
-use Rattle.head_life.specs.declared.head_lifecycle.HeadReadiness.{HeadReadiness}
-use Rattle.head_life.specs.declared.head_lifecycle.HeadView.{HeadView}
-use Rattle.head_life.specs.declared.head_lifecycle.Source.{Source}
+use Rattle.head_ready.specs.declared.head_lifecycle.HeadReadiness.{HeadReadiness}
+use Rattle.head_ready.specs.declared.head_lifecycle.HeadView.{HeadView}
+use Rattle.head_ready.specs.declared.head_lifecycle.Source.{Source}
 use Rattle.head_step.specs.declared.head_lifecycle.Call.{Call}
 
 abbrev Replied : Reply → Type 0

@@ -12,12 +12,14 @@ use Rattle.head_apply.specs.Apply.{apply}
 use Rattle.head_apply.specs.Parts.{applyAs, settleAs}
 use Rattle.head_count.specs.Counters.{raise}
 use Rattle.head_current.specs.Heads.{delivery, preparingAt, repeats, ticketOf}
-use Rattle.head_current.specs.Moves.{ownedBy}
-use Rattle.head_driver.specs.Calls.{claim, deliver, release, snapshot}
-use Rattle.head_driver.specs.Parts.{claimAs, deliverAs, viewed, withLife}
-use Rattle.head_life.specs.Apply.{planApply, planAt, planHeld}
-use Rattle.head_life.specs.Claim.{claimGate, claimStart, claimStartAt}
-use Rattle.head_life.specs.Generations.{slotAnchor}
+use Rattle.head_moves.specs.Moves.{ownedBy}
+use Rattle.head_calls.specs.Calls.{claim, deliver, release, snapshot}
+use Rattle.head_driver.specs.Parts.{viewed, withLife}
+use Rattle.head_calls.specs.Parts.{claimAs, deliverAs}
+use Rattle.head_life.specs.Apply.{planApply}
+use Rattle.head_gate.specs.Gates.{planAt, planHeld, claimGate, claimStartAt}
+use Rattle.head_life.specs.Claim.{claimStart}
+use Rattle.head_ready.specs.Generations.{slotAnchor}
 use Rattle.head_life.specs.State.{counted}
 use Rattle.head_reads.specs.Calls.{completion, heads, link, report, stats}
 use Rattle.head_step.proofs.Asked.{asked}
@@ -37,9 +39,9 @@ use Rattle.head_current.specs.declared.head_lifecycle.HeadTicket.{HeadTicket}
 use Rattle.head_current.specs.declared.head_lifecycle.Redelivery.{Redelivery}
 use Rattle.head_driver.specs.declared.head_lifecycle.Driver.{Driver}
 use Rattle.head_driver.specs.declared.head_lifecycle.Reply.{Reply}
-use Rattle.head_life.specs.declared.delta_snapshot.GenerationSlot.{GenerationSlot}
-use Rattle.head_life.specs.declared.head_lifecycle.ApplyPlan.{ApplyPlan}
-use Rattle.head_life.specs.declared.head_lifecycle.ClaimStart.{ClaimStart}
+use Rattle.head_ready.specs.declared.delta_snapshot.GenerationSlot.{GenerationSlot}
+use Rattle.head_gate.specs.declared.head_lifecycle.ApplyPlan.{ApplyPlan}
+use Rattle.head_gate.specs.declared.head_lifecycle.ClaimStart.{ClaimStart}
 use Rattle.head_step.specs.declared.head_lifecycle.Call.{Call}
 use Rattle.script_call.specs.declared.LineCall.{LineCall}
 use Rattle.rules.specs.Refusals.{FirstThatApplies, HeadInstalled, Refusal, Test, alreadyInstalled, alreadySettled, callTests, foreign, free, inFlight, leftBy, notFree, superseded, test}

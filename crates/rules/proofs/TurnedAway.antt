@@ -12,7 +12,7 @@ use Rattle.alike.proofs.Tests.{at-same, nothing-at}
 use Rattle.alike.specs.Invariant.{WhenSettled}
 use Rattle.driver.specs.Turns.{made, sheetAfter, sheetAnswer, turnOf}
 use Rattle.head_current.specs.Heads.{delivery}
-use Rattle.head_life.specs.Generations.{slotAnchor}
+use Rattle.head_ready.specs.Generations.{slotAnchor}
 use Rattle.head_step.specs.Steps.{step}
 use Rattle.script_call.proofs.Back.{call-back, sheet-back}
 use Rattle.script_call.proofs.Only.{call-only, sheet-only}
@@ -25,7 +25,7 @@ use Rattle.head_current.specs.declared.head_lifecycle.CurrentHead.{CurrentHead}
 use Rattle.head_current.specs.declared.head_lifecycle.DeliverySlot.{DeliverySlot}
 use Rattle.head_current.specs.declared.head_lifecycle.HeadDelivery.{HeadDelivery}
 use Rattle.head_driver.specs.declared.head_lifecycle.Driver.{Driver}
-use Rattle.head_life.specs.declared.delta_snapshot.GenerationSlot.{GenerationSlot}
+use Rattle.head_ready.specs.declared.delta_snapshot.GenerationSlot.{GenerationSlot}
 use Rattle.head_step.specs.declared.head_lifecycle.Call.{Call}
 use Rattle.script_call.specs.declared.LineCall.{LineCall}
 use Rattle.rules.specs.Refusals.{FirstThatApplies, HeadInstalled, IsSettled, Refusal, Test, laterTests, noCall, tests, tooShort}

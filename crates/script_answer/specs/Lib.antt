@@ -1,2 +1,3 @@
--- An answer's line with its line feed. All of it is the paper's.
+-- Document 01, "Calls and answers": the line of an answer, without and with its line feed. All of it is the paper's.
+pub mod Lines
 pub mod Answers

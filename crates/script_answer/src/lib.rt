@@ -3,21 +3,25 @@
 ghost use Prim.Native.Nat.{_+_, _≤_};
 ghost use lib.ListN.{length};
 ghost use Rattle.script_answer.specs.Answers.{answerLine};
-ghost use Rattle.script_lines.specs.Lines.{answerText};
+ghost use Rattle.script_answer.specs.Lines.{answerText};
 ghost use Rattle.script_value.specs.Buffers.{AtFront};
 ghost use Rattle.text.specs.Writes.{Wrote};
+use crate::lines::put_claimed;
+use crate::lines::put_completion;
+use crate::lines::put_heads;
+use crate::lines::put_link_line;
+use crate::lines::put_report_line;
+use crate::lines::put_stats_line;
+use crate::lines::put_ticket;
+use crate::lines::put_view;
+use crate::refusals::put_head_outcome;
 use head_driver::head_lifecycle::Answer;
-use script_lines::lines::put_claimed;
-use script_lines::lines::put_completion;
-use script_lines::lines::put_heads;
-use script_lines::lines::put_link_line;
-use script_lines::lines::put_report_line;
-use script_lines::lines::put_stats_line;
-use script_lines::lines::put_ticket;
-use script_lines::lines::put_view;
-use script_lines::refusals::put_head_outcome;
 use script_value::buffer::Written;
-use text::put::put;
+use text_put::put::put;
+
+mod lines;
+mod refusals;
+mod words;
 
 // No answer is longer than `heads`; the rest of the room is for answers to come.
 pub(crate) fn put_text(buf: &mut [u8], at: usize, answer: Answer) -> usize

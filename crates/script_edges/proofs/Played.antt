@@ -16,7 +16,7 @@ is-one : (n : ℕ) → 0 < n → n ≤ 1 → n ≡ 1
 is-one n h k = omega arith
 
 pub takes-byte : (s t : Reading) (input old new : List ℕ) (at : ℕ) (r : Fed) → at < length input → TakesSome s t (take (at + 1 - at) (drop at input)) old new r
-  → TakesByte s t (getD input at 0) (r .taken)
+    → TakesByte s t (getD input at 0) (r .taken)
 takes-byte s t input old new at r h takes =
     let q = rw (one at input h) at takes in
     let w : r .taken ≤ 1 = q .within in

@@ -6,7 +6,7 @@ use mathlib.Core.Path.{_≡_, refl}
 use lib.ListN.{length, length-append}
 use Rattle.head_driver.specs.Answers.{outcomeSaid, said, statsValues}
 use Rattle.script_answer.specs.Answers.{answerLine}
-use Rattle.script_lines.specs.Lines.{answerText, refusalOn, saidText}
+use Rattle.script_answer.specs.Lines.{answerText, refusalOn, saidText}
 use Rattle.script_outcome.specs.Texts.{endText, linkText, outcomeText, readinessText, reportText, sourceText}
 use Rattle.script_value.proofs.Rows.{values-then}
 use Rattle.script_value.specs.Texts.{anchorText, slotText, spacedText, statsText}
@@ -22,8 +22,8 @@ use Rattle.head_count.specs.declared.head_lifecycle.HeadCompletion.{HeadComplet
 use Rattle.head_count.specs.declared.head_lifecycle.HeadStats.{HeadStats}
 use Rattle.head_current.specs.declared.head_lifecycle.LastReport.{LastReport}
 use Rattle.head_driver.specs.declared.head_lifecycle.Answer.{Answer}
-use Rattle.head_life.specs.declared.head_lifecycle.HeadOutcome.{HeadOutcome}
-use Rattle.head_life.specs.declared.head_lifecycle.HeadView.{HeadView}
+use Rattle.head_gate.specs.declared.head_lifecycle.HeadOutcome.{HeadOutcome}
+use Rattle.head_ready.specs.declared.head_lifecycle.HeadView.{HeadView}
 use Rattle.script_value.specs.declared.page.Page.{Page}
 use Rattle.script_lengths.specs.Statements.{AnswerLength, AnswerRoom}
 use Rattle.script_lengths.proofs.Values.{anchor-most, end-most, link-most, outcome-most, readiness-most, report-most, slot-most, source-most, spaced-most, stats-most}

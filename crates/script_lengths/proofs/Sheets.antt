@@ -19,7 +19,7 @@ use Rattle.head_current.specs.declared.head_lifecycle.CurrentHead.{CurrentHead}
 use Rattle.head_current.specs.declared.head_lifecycle.HeadDelivery.{HeadDelivery}
 use Rattle.head_current.specs.declared.head_lifecycle.UnsettledHead.{UnsettledHead}
 use Rattle.head_driver.specs.declared.head_lifecycle.Driver.{Driver}
-use Rattle.head_life.specs.declared.delta_snapshot.GenerationSlot.{GenerationSlot}
+use Rattle.head_ready.specs.declared.delta_snapshot.GenerationSlot.{GenerationSlot}
 use Rattle.head_life.specs.declared.head_lifecycle.HeadLifecycle.{HeadLifecycle}
 use Rattle.script_value.specs.declared.page.Page.{Page}
 use Rattle.script_lengths.specs.Statements.{SheetLength, SheetRoom}

@@ -20,7 +20,7 @@ use Rattle.script_line.specs.Parts.{Prints, PutsAnswer, PutsTurn, atFron
 
 -- an answer's line is put, and counted
 pub puts-answer : (a : LineAnswer) (old new : List ℕ) (w : Written) (n m r : ℕ) → 512 ≤ length old → AtFront 512 old new (lineText a) w
-  → n ≡ bytesWritten w → m ≡ sheetLength a → r ≡ longer n m → PutsAnswer a old new r
+    → n ≡ bytesWritten w → m ≡ sheetLength a → r ≡ longer n m → PutsAnswer a old new r
 unfolding written bufferAfter bytesWritten atFront
 puts-answer a old new w n m r room front told long e =
     let k : n ≡ length (lineText a) = (told ∙ ap bytesWritten (front .result) ∙ rw (le-ltb (length old) 512 room)) in
@@ -39,21 +39,21 @@ none-longer (suc n) = rw (lt-ltb 0 (suc n) (omega arith))
 -- what a line prints stands at the front, whether the sheet was put or the answer's line
 module _ (d : Driver) (old : List ℕ) (room : 4096 ≤ length old) where
   sheet-put : (new : List ℕ) (n : ℕ) → PutsAnswer (sheetAnswer (written 4096 old (sheetText d))) (bufferAfter 4096 old (sheetText d)) new n
-    → Prints (sheetText d) d old new (record { driver = d; written = n })
+      → Prints (sheetText d) d old new (record { driver = d; written = n })
   unfolding written bufferAfter sheetAnswer sheetLength lineText atFront
   sheet-put new n p =
       let q = rw (le-ltb (length old) 4096 room) at p in
       record { driver = refl; bytes = q .bytes; count = q .count ∙ none-longer (length (sheetText d)) }
 
   by-call : (c : LineCall) (new : List ℕ) (n : ℕ) → PutsAnswer (turnOf d c old .answer) (sheetAfter d c old) new n
-    → Prints (prints d c) (leaves d c) old new (record { driver = turnOf d c old .driver; written = n })
+      → Prints (prints d c) (leaves d c) old new (record { driver = turnOf d c old .driver; written = n })
   unfolding prints leaves turnOf sheetAfter made sheetLength
   by-call LineCall.NoCall new n p = record { driver = refl; bytes = p .bytes; count = p .count ∙ longer-none _ }
   by-call LineCall.Sheet new n p = sheet-put new n p
   by-call (LineCall.Make c) new n p = record { driver = refl; bytes = p .bytes; count = p .count ∙ longer-none _ }
 
   pub prints-line : (line mid new : List ℕ) (t : Turn) (r : Printed) → Takes d line old mid t → PutsTurn t mid new r
-    → Prints (prints d (call line)) (leaves d (call line)) old new r
+      → Prints (prints d (call line)) (leaves d (call line)) old new r
   prints-line line mid new t r takes p =
       let q = by-call (call line) new (r .written) (rw (takes .turned, takes .sheet) at (p .puts)) in
       record { driver = p .driver ∙ ap (λ (t : Turn). t .driver) (takes .turned) ∙ q .driver; bytes = q .bytes; count = q .count }

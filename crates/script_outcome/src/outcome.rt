@@ -1,29 +1,14 @@
-// Links, skips, outcomes and reports as text.
+// Faults of links, skips, outcomes and reports as text.
 ghost use Prim.Native.Nat.{_+_, _≤_};
 ghost use lib.ListN.{length};
-ghost use Rattle.script_outcome.specs.Texts.{linkText, faultText, skipText, coldText, outcomeText, reportText};
+ghost use Rattle.script_outcome.specs.Texts.{faultText, skipText, coldText, outcomeText, reportText};
 ghost use Rattle.text.specs.Writes.{Wrote};
 use head_anchor::bal_prefetch::BalSkip;
 use head_anchor::read_hub::CarryOutcome;
 use head_anchor::read_hub::Link;
 use head_current::head_lifecycle::LastReport;
-use text::decimal::put_decimal;
-use text::put::put;
-
-// Puts what the link test answers.
-pub fn put_link(buf: &mut [u8], at: usize, link: Link) -> usize
-    requires { ⌜ at + 15 ≤ length (now buf) ⌝ }
-    ensures { λ r. ⌜ Wrote (now (buf .entry)) (now (buf .exit)) at r (linkText link) ⌝ }
-    ensures { λ r. ⌜ r ≤ at + 15 ⌝ }
-{
-    match link {
-        Link::Linked => put(buf, at, b"linked"),
-        Link::NoParent => put(buf, at, b"no-parent"),
-        Link::NotConsecutive => put(buf, at, b"not-consecutive"),
-        Link::HashUnknown => put(buf, at, b"hash-unknown"),
-        Link::HashMismatch => put(buf, at, b"hash-mismatch"),
-    }
-}
+use text_put::decimal::put_decimal;
+use text_put::put::put;
 
 // Puts what is wrong with a link, or `none`.
 pub(crate) fn put_fault(buf: &mut [u8], at: usize, link: Link) -> usize

@@ -1,14 +1,12 @@
-// Readiness, source and end as text.
+// Readiness as text.
 ghost use Prim.Native.Nat.{_+_, _≤_};
 ghost use lib.ListN.{length};
-ghost use Rattle.script_outcome.specs.Texts.{reasonText, readinessText, sourceText, endText};
+ghost use Rattle.script_outcome.specs.Texts.{reasonText, readinessText};
 ghost use Rattle.text.specs.Writes.{Wrote};
 use crate::outcome::put_cold;
-use head_count::head_lifecycle::HeadCompletion;
-use head_life::head_lifecycle::HeadCold;
-use head_life::head_lifecycle::HeadReadiness;
-use head_life::head_lifecycle::Source;
-use text::put::put;
+use head_ready::head_lifecycle::HeadCold;
+use head_ready::head_lifecycle::HeadReadiness;
+use text_put::put::put;
 
 // Puts why a view is cold.
 pub(crate) fn put_reason(buf: &mut [u8], at: usize, reason: HeadCold) -> usize
@@ -34,33 +32,5 @@ pub fn put_readiness(buf: &mut [u8], at: usize, readiness: HeadReadiness) -> usi
     match readiness {
         HeadReadiness::Ready => put(buf, at, b"ready"),
         HeadReadiness::Cold(reason) => put_reason(buf, at, reason),
-    }
-}
-
-// Puts where a view's handle comes from.
-pub fn put_source(buf: &mut [u8], at: usize, source: Source) -> usize
-    requires { ⌜ at + 11 ≤ length (now buf) ⌝ }
-    ensures { λ r. ⌜ Wrote (now (buf .entry)) (now (buf .exit)) at r (sourceText source) ⌝ }
-    ensures { λ r. ⌜ r ≤ at + 11 ⌝ }
-{
-    match source {
-        Source::Installed => put(buf, at, b"installed"),
-        Source::Provisional => put(buf, at, b"provisional"),
-        Source::Previous => put(buf, at, b"previous"),
-        Source::Spare => put(buf, at, b"spare"),
-    }
-}
-
-// Puts an attempt's end, or `none`.
-pub fn put_end(buf: &mut [u8], at: usize, end: HeadCompletion) -> usize
-    requires { ⌜ at + 10 ≤ length (now buf) ⌝ }
-    ensures { λ r. ⌜ Wrote (now (buf .entry)) (now (buf .exit)) at r (endText end) ⌝ }
-    ensures { λ r. ⌜ r ≤ at + 10 ⌝ }
-{
-    match end {
-        HeadCompletion::Open => put(buf, at, b"none"),
-        HeadCompletion::Settled => put(buf, at, b"settled"),
-        HeadCompletion::Superseded => put(buf, at, b"superseded"),
-        HeadCompletion::Abandoned => put(buf, at, b"abandoned"),
     }
 }

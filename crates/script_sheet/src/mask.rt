@@ -6,7 +6,7 @@ use head_anchor::storage_memo::AnchorSlot;
 use head_anchor::storage_memo::ReadAnchor;
 use head_anchor::storage_memo::holds;
 use head_current::head_lifecycle::CurrentHead;
-use head_life::delta_snapshot::GenerationSlot;
+use head_ready::delta_snapshot::GenerationSlot;
 
 pub(crate) fn is_settled(current: CurrentHead) -> bool
     ensures { λ r. ⌜ r ≡ isSettled current ⌝ }

@@ -8,8 +8,8 @@ use crate::page::put_hash_on;
 use head_anchor::storage_memo::AnchorSlot;
 use head_anchor::storage_memo::BlockHash;
 use head_anchor::storage_memo::ReadAnchor;
-use text::decimal::put_decimal;
-use text::put::put;
+use text_put::decimal::put_decimal;
+use text_put::put::put;
 
 // Puts an anchor's hash, or `none`.
 pub(crate) fn put_block_hash(buf: &mut [u8], at: usize, page: Page, hash: BlockHash) -> usize

@@ -4,8 +4,8 @@ ghost use lib.ListN.{length};
 ghost use Rattle.script_value.specs.Texts.{spacedText, fourText, statsText};
 ghost use Rattle.text.specs.Writes.{Wrote};
 use head_count::head_lifecycle::HeadStats;
-use text::decimal::put_decimal;
-use text::put::put;
+use text_put::decimal::put_decimal;
+use text_put::put::put;
 
 // Puts ` N`.
 pub fn put_spaced(buf: &mut [u8], at: usize, n: u64) -> usize

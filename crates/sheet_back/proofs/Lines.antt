@@ -32,8 +32,8 @@ use Rattle.head_current.specs.declared.head_lifecycle.CurrentHead.{CurrentHead}
 use Rattle.head_current.specs.declared.head_lifecycle.HeadDelivery.{HeadDelivery}
 use Rattle.head_current.specs.declared.head_lifecycle.SettledHead.{SettledHead}
 use Rattle.head_current.specs.declared.head_lifecycle.UnsettledHead.{UnsettledHead}
-use Rattle.head_life.specs.declared.delta_snapshot.Generation.{Generation}
-use Rattle.head_life.specs.declared.delta_snapshot.GenerationSlot.{GenerationSlot}
+use Rattle.head_ready.specs.declared.delta_snapshot.Generation.{Generation}
+use Rattle.head_ready.specs.declared.delta_snapshot.GenerationSlot.{GenerationSlot}
 use Rattle.script_value.specs.declared.page.Page.{Page}
 use Rattle.sheet_back.specs.Heads.{headNamed, readCount, readCurrent, readDelivery, readGeneration, readHeld, readInstalled, readPose, readPreparing, readPrevious, readSettled, readSuperseded, readUnclaimed}
 use Rattle.sheet_back.proofs.Ranges.{anchor-range, hash-range, readiness-range, report-range}

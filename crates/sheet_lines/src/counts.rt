@@ -7,7 +7,7 @@ use head_count::head_lifecycle::Epoch;
 use head_count::head_lifecycle::HeadStats;
 use script_value::counters::put_spaced;
 use script_value::counters::put_stats;
-use text::put::put;
+use text_put::put::put;
 
 // Puts the eight counters, then the epoch.
 pub fn put_count(buf: &mut [u8], at: usize, stats: HeadStats, epoch: Epoch) -> usize

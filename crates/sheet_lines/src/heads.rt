@@ -15,7 +15,7 @@ use script_value::anchor::put_slot;
 use script_value::counters::put_spaced;
 use script_value::page::Page;
 use script_value::page::put_hash_on;
-use text::put::put;
+use text_put::put::put;
 
 pub(crate) fn put_pose(buf: &mut [u8], at: usize, end: HeadCompletion) -> usize
     requires { ⌜ at + 9 ≤ length (now buf) ⌝ }

@@ -3,13 +3,13 @@ ghost use Prim.Native.Nat.{_+_, _≤_};
 ghost use lib.ListN.{length};
 ghost use Rattle.sheet_lines.specs.Lines.{generationText, installedLine, previousLine};
 ghost use Rattle.text.specs.Writes.{Wrote};
-use head_life::delta_snapshot::Generation;
-use head_life::delta_snapshot::GenerationSlot;
+use head_ready::delta_snapshot::Generation;
+use head_ready::delta_snapshot::GenerationSlot;
 use script_outcome::view::put_readiness;
 use script_value::anchor::put_anchor;
 use script_value::counters::put_spaced;
 use script_value::page::Page;
-use text::put::put;
+use text_put::put::put;
 
 // Puts `A H READINESS`: the one place where what follows a generation's handle is written.
 pub(crate) fn put_held(buf: &mut [u8], at: usize, held: Generation) -> usize

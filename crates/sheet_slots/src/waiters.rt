@@ -7,8 +7,8 @@ use head_count::head_lifecycle::Waiter;
 use head_count::head_lifecycle::WaiterSlot;
 use script_value::anchor::put_anchor;
 use script_value::page::Page;
-use text::decimal::put_decimal;
-use text::put::put;
+use text_put::decimal::put_decimal;
+use text_put::put::put;
 
 // Puts the line of waiter n. A free one has none.
 pub(crate) fn put_waiter(buf: &mut [u8], at: usize, n: u64, waiter: Waiter) -> usize

@@ -7,6 +7,4 @@ pub mod Words
 pub mod Same
 pub mod Places
 pub mod Digits
-pub mod Fill
-pub mod DecimalFill
 pub mod DecimalRead

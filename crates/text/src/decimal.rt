@@ -1,15 +1,11 @@
-// Numbers as decimal text.
-ghost use Prim.Native.Nat.{_+_, _≤_};
+// Numbers of decimal text.
 ghost use mathlib.Core.Path.{_≡_};
-ghost use lib.ListN.{length};
-ghost use Rattle.text.specs.Decimals.{decimal, digit, more, number};
+ghost use Rattle.text.specs.Decimals.{digit, more, number};
 ghost use Rattle.text.specs.Rests.{readNumber};
 ghost use Rattle.text.specs.Places.{here, Reads};
-ghost use Rattle.text.specs.Writes.{Wrote};
 use crate::place::Place;
 use crate::place::past;
 use crate::place::word_from;
-use crate::put::put;
 
 // What a word of digits says.
 pub enum Number {
@@ -94,22 +90,4 @@ pub fn take_decimal(line: &[u8], from: Place) -> NumberFrom
             next: Place::Stopped,
         },
     }
-}
-
-// Puts a number. Its digits come last first, so they are laid out beside the buffer.
-pub fn put_decimal(buf: &mut [u8], at: usize, n: u64) -> usize
-    requires { ⌜ at + 20 ≤ length (now buf) ⌝ }
-    ensures { λ r. ⌜ Wrote (now (buf .entry)) (now (buf .exit)) at r (decimal n) ⌝ }
-    ensures { λ r. ⌜ r ≤ at + 20 ⌝ }
-{
-    let mut digits = [0u8; 20];
-    let mut i = 19;
-    let mut rest = n;
-    while rest >= 10 {
-        digits[i] = b'0' + (rest % 10) as u8;
-        rest = rest / 10;
-        i -= 1;
-    }
-    digits[i] = b'0' + rest as u8;
-    put(buf, at, &digits[i..])
 }

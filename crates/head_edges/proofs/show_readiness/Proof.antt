@@ -1,6 +1,6 @@
 -- `head_edges::show_readiness` meets its contract: on each way through its code the result is what the definition gives.
 use borrow.Author.Needs.{needs}
-use Rattle.head_life.specs.Generations.{isReady}
+use Rattle.head_ready.specs.Generations.{isReady}
 use Rattle.head_edges.proofs.show_readiness.Statement.{statement}
 use Rattle.head_edges.proofs.show_readiness.Tie as tie
 

@@ -1,7 +1,7 @@
 -- `head_edges::show_reason` meets its contract: on each way through its code the result is what the definition gives.
 use mathlib.Core.Path.{refl}
 use borrow.Author.Needs.{needs}
-use Rattle.head_life.specs.Generations.{isReady}
+use Rattle.head_ready.specs.Generations.{isReady}
 use Rattle.head_edges.proofs.show_reason.Statement.{statement}
 use Rattle.head_edges.proofs.show_reason.Tie as tie
 

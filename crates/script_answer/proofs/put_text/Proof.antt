@@ -1,7 +1,7 @@
 use native.Mathlib.Omega.{arith}
 use borrow.Author.Needs.{needs}
 use Rattle.head_driver.specs.Answers.{said}
-use Rattle.script_lines.specs.Lines.{answerText, refusalOn, saidText}
+use Rattle.script_answer.specs.Lines.{answerText, refusalOn, saidText}
 use Rattle.script_value.specs.Values.{valueText, valuesOn}
 use Rattle.script_value.specs.Words.{wordText}
 use Rattle.text.specs.Decimals.{decimal, decimalOn}

@@ -10,6 +10,6 @@ apply-spec = tie.close (tie.spec
     (λ c κs. tt)
     (λ c κs. tt)
     (λ c κs. tt)
-    (λ c κs. tt)
     (λ c. replied (rw (← c .before .before .before .as-prepared .ensures, c .before .before .if1 .taken, ← c .before .plan-apply .ensures, ← c .apply-as .ensures)))
+    (λ c κs. tt)
     (λ c. replied (rw (← c .before .before .as-prepared .ensures, c .before .if1 .left, ← c .answered .ensures))))

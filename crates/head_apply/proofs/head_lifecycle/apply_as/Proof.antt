@@ -8,10 +8,10 @@ unfolding applyAs
 apply-as-spec = tie.close (tie.spec
     (λ c. c .match .keys1)
     (λ c κs. tt)
+    (λ c. rw (c .before .before .plan .given .1, ← c .answered .ensures))
     (λ c. c .match .keys2)
     (λ c κs. tt)
+    (λ c. rw (c .before .before .plan2 .given .1, ← c .discard .ensures))
     (λ c. c .match .keys3)
     (λ c κs. tt)
-    (λ c. rw (c .before .before .plan .given .1, ← c .answered .ensures))
-    (λ c. rw (c .before .before .plan2 .given .1, ← c .discard .ensures))
     (λ c. rw (c .before .before .plan3 .given .1, ← c .admit .ensures)))

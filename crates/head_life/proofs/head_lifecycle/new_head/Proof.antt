@@ -1,4 +1,3 @@
--- `head_life::head_lifecycle::new_head` meets its contract: on each way through its code the result is what the definition gives.
 use Rattle.head_life.specs.Deliver.{newHead}
 use Rattle.head_life.proofs.head_lifecycle.new_head.Statement.{statement}
 use Rattle.head_life.proofs.head_lifecycle.new_head.Tie as tie
@@ -7,6 +6,6 @@ pub new-head-spec : {M : Type 1} → statement M
 unfolding newHead
 new-head-spec = tie.close (tie.spec
     (λ c κs. tt)
-    (λ c κs. tt)
     (λ c. rw (c .before .if1 .taken, ← c .settled .ensures))
+    (λ c κs. tt)
     (λ c. rw (c .before .if1 .left, ← c .minted .ensures)))

@@ -8,7 +8,7 @@ unfolding join
 join-spec = tie.close (tie.spec
     (λ c κs. tt)
     (λ c κs. tt)
-    (λ c κs. tt)
-    (λ c κs. tt)
     (λ c. rw (← c .before .before .preparing-at .ensures, c .before .if1 .taken, ← c .park .ensures))
+    (λ c κs. tt)
+    (λ c κs. tt)
     (λ c. rw (← c .before .before .before .preparing-at .ensures, c .before .before .if1 .left, ← c .before .lookup .ensures, ← c .view-unowned .ensures)))

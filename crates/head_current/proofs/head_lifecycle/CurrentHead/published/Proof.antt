@@ -1,4 +1,3 @@
--- `head_current::head_lifecycle::CurrentHead::published` meets its contract: on each way through its code the result is what the definition gives.
 use Rattle.head_current.specs.Heads.{published}
 use Rattle.head_current.proofs.head_lifecycle.CurrentHead.published.Statement.{statement}
 use Rattle.head_current.proofs.head_lifecycle.CurrentHead.published.Tie as tie
@@ -7,10 +6,13 @@ pub published-spec : {M : Type 1} → statement M
 unfolding published
 published-spec = tie.close (tie.spec
     (λ c. c .match .keys1)
-    (λ c. c .match .keys2)
-    (λ c. c .match .keys3)
-    (λ c. c .match .keys4)
     (λ c. rw (c .enum-told .given .1))
-    (λ c. rw (c .before .before .self .given .1))
-    (λ c. rw (c .before .before .self2 .given .1))
-    (λ c. rw (c .before .before .self3 .given .1)))
+    (λ c. c .match .keys2)
+    (λ c κs. tt)
+    (λ c. rw (c .before .before .self .given .1, ← c .end-of .ensures))
+    (λ c. c .match .keys3)
+    (λ c κs. tt)
+    (λ c. rw (c .before .before .self2 .given .1, ← c .end-of2 .ensures))
+    (λ c. c .match .keys4)
+    (λ c κs. tt)
+    (λ c. rw (c .before .before .self3 .given .1, ← c .end-of3 .ensures)))

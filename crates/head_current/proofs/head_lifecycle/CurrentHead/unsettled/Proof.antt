@@ -1,4 +1,3 @@
--- `head_current::head_lifecycle::CurrentHead::unsettled` meets its contract: on each way through its code the result is what the definition gives.
 use Rattle.head_current.specs.Heads.{unsettled}
 use Rattle.head_current.proofs.head_lifecycle.CurrentHead.unsettled.Statement.{statement}
 use Rattle.head_current.proofs.head_lifecycle.CurrentHead.unsettled.Tie as tie
@@ -7,10 +6,10 @@ pub unsettled-spec : {M : Type 1} → statement M
 unfolding unsettled
 unsettled-spec = tie.close (tie.spec
     (λ c. c .match .keys1)
-    (λ c. c .match .keys2)
-    (λ c. c .match .keys3)
-    (λ c. c .match .keys4)
     (λ c. rw (c .enum-told .given .1))
+    (λ c. c .match .keys2)
     (λ c. rw (c .enum-told2 .given .1))
+    (λ c. c .match .keys3)
     (λ c. rw (c .enum-told3 .given .1))
+    (λ c. c .match .keys4)
     (λ c. rw (c .enum-told4 .given .1)))

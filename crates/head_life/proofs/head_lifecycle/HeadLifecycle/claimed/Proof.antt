@@ -1,4 +1,3 @@
--- `head_life::head_lifecycle::HeadLifecycle::claimed` meets its contract: on each way through its code the result is what the definition gives.
 use Rattle.head_life.specs.Claim.{claimed}
 use Rattle.head_life.proofs.head_lifecycle.HeadLifecycle.claimed.Statement.{statement}
 use Rattle.head_life.proofs.head_lifecycle.HeadLifecycle.claimed.Tie as tie
@@ -7,4 +6,5 @@ pub claimed-spec : {M : Type 1} → statement M
 unfolding claimed
 claimed-spec = tie.close (tie.spec
     (λ c κs. tt)
-    (λ c. rw (← c .before .before .claimed .ensures)))
+    (λ c κs. tt)
+    (λ c. rw (← c .before .claimed-head .ensures, ← c .with-head .ensures)))

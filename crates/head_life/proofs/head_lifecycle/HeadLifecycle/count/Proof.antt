@@ -1,4 +1,3 @@
--- `head_life::head_lifecycle::HeadLifecycle::count` meets its contract: on each way through its code the result is what the definition gives.
 use Rattle.head_life.specs.State.{counted}
 use Rattle.head_life.proofs.head_lifecycle.HeadLifecycle.count.Statement.{statement}
 use Rattle.head_life.proofs.head_lifecycle.HeadLifecycle.count.Tie as tie
@@ -7,4 +6,4 @@ pub count-spec : {M : Type 1} → statement M
 unfolding counted
 count-spec = tie.close (tie.spec
     (λ c κs. tt)
-    (λ c. rw (← c .before .before .raise .ensures)))
+    (λ c. rw (← c .raise .ensures)))

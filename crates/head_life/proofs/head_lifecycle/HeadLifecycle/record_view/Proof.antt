@@ -1,4 +1,3 @@
--- `head_life::head_lifecycle::HeadLifecycle::record_view` meets its contract: on each way through its code the result is what the definition gives.
 use Rattle.head_life.specs.State.{viewCounted}
 use Rattle.head_life.proofs.head_lifecycle.HeadLifecycle.record_view.Statement.{statement}
 use Rattle.head_life.proofs.head_lifecycle.HeadLifecycle.record_view.Tie as tie
@@ -8,4 +7,4 @@ unfolding viewCounted
 record-view-spec = tie.close (tie.spec
     (λ c κs. tt)
     (λ c κs. tt)
-    (λ c. rw (← c .before .before .before .is-ready .ensures, ← c .before .before .with-view .ensures)))
+    (λ c. rw (← c .before .is-ready .ensures, ← c .with-view .ensures)))

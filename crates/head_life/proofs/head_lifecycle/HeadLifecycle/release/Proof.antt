@@ -1,4 +1,3 @@
--- `head_life::head_lifecycle::HeadLifecycle::release` meets its contract: on each way through its code the result is what the definition gives.
 use Rattle.head_life.specs.Claim.{released}
 use Rattle.head_life.proofs.head_lifecycle.HeadLifecycle.release.Statement.{statement}
 use Rattle.head_life.proofs.head_lifecycle.HeadLifecycle.release.Tie as tie
@@ -7,4 +6,5 @@ pub release-spec : {M : Type 1} → statement M
 unfolding released
 release-spec = tie.close (tie.spec
     (λ c κs. tt)
-    (λ c. rw (← c .before .before .before .released .ensures)))
+    (λ c κs. tt)
+    (λ c. rw (← c .before .released-head .ensures, ← c .with-head .ensures)))

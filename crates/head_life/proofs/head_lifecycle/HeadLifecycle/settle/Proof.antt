@@ -11,4 +11,4 @@ settle-spec = tie.close (tie.spec
     (λ c κs. tt)
     (λ c κs. tt)
     (λ c κs. tt)
-    (λ c. rw (← c .before .before .before .before .before .settling-epoch .ensures, ← c .before .before .before .before .settled .ensures, ← c .before .before .before .settled-readiness .ensures, ← c .before .before .previous-after .ensures, ← c .before .raise .ensures)))
+    (λ c. rw (← c .before .before .before .before .before .settling-epoch .ensures, ← c .before .before .before .before .settled-head .ensures, ← c .before .before .before .settled-readiness .ensures, ← c .before .before .previous-after .ensures, ← c .before .raise .ensures)))

@@ -1,0 +1,2 @@
+-- Document 01, "Lifecycle": readiness and generations. All of it is the paper's.
+pub mod Generations

@@ -1,0 +1,15 @@
+-- The eight counters inside their line.
+use mathlib.Core.List.{_++_}
+use mathlib.Core.Path.{_≡_}
+use Rattle.head_driver.specs.Answers.{said}
+use Rattle.script_value.proofs.Rows.{values-then}
+use Rattle.script_value.specs.Texts.{statsText}
+use Rattle.script_value.specs.Words.{wordText}
+use Rattle.text.specs.Ascii.{ascii}
+use Rattle.head_count.specs.declared.head_lifecycle.HeadStats.{HeadStats}
+use Rattle.head_driver.specs.declared.head_lifecycle.Answer.{Answer}
+use Rattle.script_answer.specs.Lines.{answerText, refusalOn, saidText}
+
+pub stats-line : (s : HeadStats) → ascii "(stats" ++ (statsText s ++ ascii ")") ≡ answerText (Answer.Stats s)
+unfolding answerText saidText said refusalOn wordText statsText
+stats-line s = rw values-then

@@ -1,0 +1,59 @@
+// The answers of an apply or a claim: what it settled, or why the state turned it away.
+ghost use Prim.Native.Nat.{_+_, _≤_};
+ghost use lib.ListN.{length};
+ghost use Rattle.script_answer.specs.Lines.{answerText};
+ghost use Rattle.text.specs.Writes.{Wrote};
+ghost use Rattle.head_driver.specs.declared.head_lifecycle.Answer.{Answer};
+use head_anchor::read_hub::CarryOutcome;
+use head_anchor::storage_memo::ReadAnchor;
+use head_gate::head_lifecycle::HeadOutcome;
+use script_outcome::outcome::put_outcome;
+use script_value::anchor::put_anchor;
+use script_value::page::Page;
+use text_put::put::put;
+
+pub(crate) fn put_settled(buf: &mut [u8], at: usize, outcome: CarryOutcome) -> usize
+    requires { ⌜ at + 62 ≤ length (now buf) ⌝ }
+    ensures { λ r. ⌜ Wrote (now (buf .entry)) (now (buf .exit)) at r (answerText (Answer.Outcome (HeadOutcome.Settled outcome))) ⌝ }
+    ensures { λ r. ⌜ r ≤ at + 62 ⌝ }
+{
+    let i = put(buf, at, b"(settled ");
+    let j = put_outcome(buf, i, outcome);
+    put(buf, j, b")")
+}
+
+pub(crate) fn put_superseded(buf: &mut [u8], at: usize, anchor: ReadAnchor) -> usize
+    requires { ⌜ at + 100 ≤ length (now buf) ⌝ }
+    ensures { λ r. ⌜ Wrote (now (buf .entry)) (now (buf .exit)) at r (answerText (Answer.Outcome (HeadOutcome.Superseded anchor))) ⌝ }
+    ensures { λ r. ⌜ r ≤ at + 100 ⌝ }
+{
+    let i = put(buf, at, b"(refused 11 ");
+    let j = put_anchor(buf, i, Page::Line, anchor);
+    put(buf, j, b")")
+}
+
+pub(crate) fn put_foreign(buf: &mut [u8], at: usize, list: ReadAnchor, held: ReadAnchor) -> usize
+    requires { ⌜ at + 188 ≤ length (now buf) ⌝ }
+    ensures { λ r. ⌜ Wrote (now (buf .entry)) (now (buf .exit)) at r (answerText (Answer.Outcome (HeadOutcome.Foreign list held))) ⌝ }
+    ensures { λ r. ⌜ r ≤ at + 188 ⌝ }
+{
+    let i = put(buf, at, b"(refused 12 ");
+    let j = put_anchor(buf, i, Page::Line, list);
+    let k = put(buf, j, b" ");
+    let l = put_anchor(buf, k, Page::Line, held);
+    put(buf, l, b")")
+}
+
+pub(crate) fn put_head_outcome(buf: &mut [u8], at: usize, outcome: HeadOutcome) -> usize
+    requires { ⌜ at + 188 ≤ length (now buf) ⌝ }
+    ensures { λ r. ⌜ Wrote (now (buf .entry)) (now (buf .exit)) at r (answerText (Answer.Outcome outcome)) ⌝ }
+    ensures { λ r. ⌜ r ≤ at + 188 ⌝ }
+{
+    match outcome {
+        HeadOutcome::Settled(settled) => put_settled(buf, at, settled),
+        HeadOutcome::AlreadySettled => put(buf, at, b"(refused 13)"),
+        HeadOutcome::InFlight => put(buf, at, b"(refused 14)"),
+        HeadOutcome::Superseded(anchor) => put_superseded(buf, at, anchor),
+        HeadOutcome::Foreign(list, held) => put_foreign(buf, at, list, held),
+    }
+}
