@@ -12,10 +12,11 @@ use Rattle.script_back.specs.Ranges.{AnchorFits, Fits, OutcomeFits, ReadinessFi
 use Rattle.script_back.specs.Reads.{got, map, then}
 use Rattle.script_answer.specs.Lines.{refusalOn}
 use Rattle.script_outcome.specs.Texts.{endText, linkText, outcomeText, readinessText, reportText, sourceText}
-use Rattle.script_value.specs.Texts.{anchorText, slotText, spacedText, statsText}
-use Rattle.script_value.proofs.Rows.{values-then}
-use Rattle.script_value.specs.Values.{valueText, valuesOn}
-use Rattle.script_value.specs.Words.{wordText}
+use Rattle.script_value.specs.Texts.{spacedText, statsText}
+use Rattle.value_text.specs.Texts.{anchorText, slotText}
+use Rattle.value_text.proofs.Rows.{values-then}
+use Rattle.value_text.specs.Values.{valueText, valuesOn}
+use Rattle.value_text.specs.Words.{wordText}
 use Rattle.text.specs.Ascii.{ascii}
 use Rattle.text.specs.Rests.{Took, after, at, step}
 use Rattle.text.specs.Same.{sameText}
@@ -30,7 +31,7 @@ use Rattle.head_current.specs.declared.head_lifecycle.LastReport.{LastReport}
 use Rattle.head_driver.specs.declared.head_lifecycle.Answer.{Answer}
 use Rattle.head_gate.specs.declared.head_lifecycle.HeadOutcome.{HeadOutcome}
 use Rattle.head_ready.specs.declared.head_lifecycle.HeadView.{HeadView}
-use Rattle.script_value.specs.declared.page.Page.{Page}
+use Rattle.value_text.specs.declared.page.Page.{Page}
 use Rattle.answer_back.specs.Ranges.{AnswerFits, HeadOutcomeFits}
 use Rattle.answer_back.specs.Reads.{answerNamed, readAnswer, readForeign, readHeads, readRefused, readView, refusedBy}
 use Rattle.answer_back.specs.Statements.{Injective, ReadBack}

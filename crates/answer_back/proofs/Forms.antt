@@ -8,15 +8,15 @@ use Rattle.head_driver.specs.Answers.{said}
 use Rattle.script_answer.specs.Answers.{answerLine}
 use Rattle.script_back.specs.Reads.{then}
 use Rattle.script_answer.specs.Lines.{answerText, refusalOn, saidText}
-use Rattle.script_value.specs.Values.{valueText, valuesOn}
-use Rattle.script_value.specs.Words.{wordText}
+use Rattle.value_text.specs.Values.{valueText, valuesOn}
+use Rattle.value_text.specs.Words.{wordText}
 use Rattle.text.proofs.Back.{past-back, word-back}
 use Rattle.text.specs.Ascii.{ascii}
 use Rattle.text.specs.Decimals.{decimal}
 use Rattle.text.specs.Rests.{after, at, step}
 use Rattle.text.specs.Words.{run}
 use Rattle.head_driver.specs.declared.head_lifecycle.Answer.{Answer}
-use Rattle.script_value.specs.declared.page.Page.{Page}
+use Rattle.value_text.specs.declared.page.Page.{Page}
 use Rattle.answer_back.specs.Reads.{answerNamed, readAnswer}
 
 values-append : (p : Page) (vs : List Value) (s t : List ℕ) → valuesOn p vs s ++ t ≡ valuesOn p vs (s ++ t)

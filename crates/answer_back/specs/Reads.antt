@@ -7,7 +7,7 @@ use Rattle.head_anchor.specs.Words.{Word}
 use Rattle.head_count.specs.Counters.{epochOf, seqOf}
 use Rattle.script_back.specs.Outcomes.{readEnd, readLink, readOutcome, readReadiness, readReport, readSource}
 use Rattle.script_back.specs.Reads.{got, map, readAnchor, readSlot, readStats, spacedNumber, then}
-use Rattle.script_value.specs.Words.{wordText}
+use Rattle.value_text.specs.Words.{wordText}
 use Rattle.text.specs.Ascii.{ascii}
 use Rattle.text.specs.Rests.{Rest, Took, after, pastWord, stopped, wordHere}
 use Rattle.text.specs.Same.{sameText}
@@ -15,7 +15,7 @@ use Rattle.head_anchor.specs.declared.read_hub.CarryOutcome.{CarryOutcome}
 use Rattle.head_anchor.specs.declared.storage_memo.ReadAnchor.{ReadAnchor}
 use Rattle.head_driver.specs.declared.head_lifecycle.Answer.{Answer}
 use Rattle.head_gate.specs.declared.head_lifecycle.HeadOutcome.{HeadOutcome}
-use Rattle.script_value.specs.declared.page.Page.{Page}
+use Rattle.value_text.specs.declared.page.Page.{Page}
 
 -- ---- values, each after a space
 

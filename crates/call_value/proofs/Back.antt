@@ -21,7 +21,11 @@ use Rattle.hash_text.specs.Ranges.{HashFits}
 use Rattle.hash_text.specs.declared.HashWord.{HashWord}
 use Rattle.hash_text.proofs.Back.{hash-back, hash-says}
 use Rattle.call_value.specs.Values.{blockHashGot, readBlockHash, readAnchor, readSlot, spacedNumber, readFailure, readSkip, spacedHash, spacedAnchor, spacedSlot, spacedSkip}
-use Rattle.call_value.specs.Texts.{blockHashText, anchorText, slotText, skipText}
+use Rattle.value_text.specs.Texts.{blockHashText, anchorText, slotText, skipText}
+use Rattle.value_text.specs.Values.{hashText, valueText}
+use Rattle.value_text.specs.Words.{wordText}
+use Rattle.head_anchor.specs.Values.{anchorValue, blockHashValue, skipValue, slotValue}
+use Rattle.value_text.specs.declared.page.Page.{Page}
 use Rattle.call_value.specs.Ranges.{Fits, BlockHashFits, AnchorFits, SlotFits, SkipFits}
 
 -- ---- anchors
@@ -38,22 +42,22 @@ known-back : (h : Hash) (t : List ℕ) → HashFits h → run t ≡ 0 → blockH
 unfolding readHash
 known-back h t f z = got-known _ _ h t (hash-back h t f z)
 
-pub block-hash-back : (b : BlockHash) (t : List ℕ) → BlockHashFits b → run t ≡ 0 → readBlockHash (at (blockHashText b ++ t)) ≡ record { value = b; next = at t }
-unfolding readBlockHash blockHashText run inWord sameText
+pub block-hash-back : (b : BlockHash) (t : List ℕ) → BlockHashFits b → run t ≡ 0 → readBlockHash (at (blockHashText Page.Line b ++ t)) ≡ record { value = b; next = at t }
+unfolding readBlockHash blockHashText run inWord sameText valueText wordText hashText blockHashValue
 block-hash-back BlockHash.Unknown t f z = rw (says-back (ascii "none") t refl z (ascii "none"), past-back (ascii "none") t refl z)
 block-hash-back (BlockHash.Known h) t f z = rw (hash-says (ascii "none") h t (λ e. omega arith) z) (known-back h t f z)
 
-pub anchor-back : (a : ReadAnchor) (t : List ℕ) → AnchorFits a → readAnchor (at (anchorText a ++ t)) ≡ record { value = a; next = at t }
-unfolding readAnchor anchorText after step run inWord
+pub anchor-back : (a : ReadAnchor) (t : List ℕ) → AnchorFits a → readAnchor (at (anchorText Page.Line a ++ t)) ≡ record { value = a; next = at t }
+unfolding readAnchor anchorText after step run inWord valueText anchorValue blockHashText
 anchor-back a t f = simp (append-assoc, number-back, block-hash-back, f .number, f .hash)
 
 -- no word stands before a bracket
-pub anchor-says : (a : ReadAnchor) (t : List ℕ) → says (ascii "none") (at (anchorText a ++ t)) ≡ false
-unfolding anchorText says wordHere word run inWord sameText
+pub anchor-says : (a : ReadAnchor) (t : List ℕ) → says (ascii "none") (at (anchorText Page.Line a ++ t)) ≡ false
+unfolding anchorText says wordHere word run inWord sameText valueText anchorValue blockHashText
 anchor-says a t = refl
 
-pub slot-back : (s : AnchorSlot) (t : List ℕ) → SlotFits s → run t ≡ 0 → readSlot (at (slotText s ++ t)) ≡ record { value = s; next = at t }
-unfolding readSlot slotText run inWord sameText
+pub slot-back : (s : AnchorSlot) (t : List ℕ) → SlotFits s → run t ≡ 0 → readSlot (at (slotText Page.Line s ++ t)) ≡ record { value = s; next = at t }
+unfolding readSlot slotText run inWord sameText valueText wordText slotValue anchorText
 slot-back AnchorSlot.Nothing t f z = rw (says-back (ascii "none") t refl z (ascii "none"), past-back (ascii "none") t refl z)
 slot-back (AnchorSlot.At a) t f z = rw (anchor-says a t, anchor-back a t f)
 
@@ -81,7 +85,7 @@ unfolding says wordHere word run inWord sameText
 open-says b k t = refl
 
 pub skip-back : (x : BalSkip) (t : List ℕ) → SkipFits x → run t ≡ 0 → readSkip (at (skipText x ++ t)) ≡ record { value = x; next = at t }
-unfolding readSkip skipText run inWord sameText after step
+unfolding readSkip skipText run inWord sameText after step valueText wordText skipValue
 skip-back BalSkip.Nothing t f z = rw (says-back (ascii "none") t refl z (ascii "none"), past-back (ascii "none") t refl z)
 skip-back BalSkip.NoHash t f z = rw (says-back (ascii "no-hash") t refl z (ascii "none"), says-back (ascii "no-hash") t refl z (ascii "no-hash"), past-back (ascii "no-hash") t refl z)
 skip-back (BalSkip.Rpc n) t f z = simp (open-says, append-assoc, rpc-back n t f)
@@ -93,11 +97,11 @@ pub spaced-hash-back : (h : Hash) (t : List ℕ) → HashFits h → run t ≡ 0 
 unfolding spacedHash after step
 spaced-hash-back h t f z = hash-back h t f z
 
-pub spaced-anchor-back : (a : ReadAnchor) (t : List ℕ) → AnchorFits a → spacedAnchor (at (ascii " " ++ (anchorText a ++ t))) ≡ record { value = a; next = at t }
+pub spaced-anchor-back : (a : ReadAnchor) (t : List ℕ) → AnchorFits a → spacedAnchor (at (ascii " " ++ (anchorText Page.Line a ++ t))) ≡ record { value = a; next = at t }
 unfolding spacedAnchor after step
 spaced-anchor-back a t f = anchor-back a t f
 
-pub spaced-slot-back : (s : AnchorSlot) (t : List ℕ) → SlotFits s → run t ≡ 0 → spacedSlot (at (ascii " " ++ (slotText s ++ t))) ≡ record { value = s; next = at t }
+pub spaced-slot-back : (s : AnchorSlot) (t : List ℕ) → SlotFits s → run t ≡ 0 → spacedSlot (at (ascii " " ++ (slotText Page.Line s ++ t))) ≡ record { value = s; next = at t }
 unfolding spacedSlot after step
 spaced-slot-back s t f z = slot-back s t f z
 

@@ -20,7 +20,11 @@ use Rattle.hash_text.specs.Reads.{hashGot, readHash}
 use Rattle.hash_text.specs.declared.HashWord.{HashWord}
 use Rattle.hash_text.proofs.Only.{line-hash-only}
 use Rattle.call_value.specs.Values.{blockHashGot, readBlockHash, readAnchor, readSlot, spacedNumber, readFailure, readSkip, spacedHash, spacedAnchor, spacedSlot, spacedSkip}
-use Rattle.call_value.specs.Texts.{blockHashText, anchorText, slotText, skipText}
+use Rattle.value_text.specs.Texts.{blockHashText, anchorText, slotText, skipText}
+use Rattle.value_text.specs.Values.{hashText, valueText}
+use Rattle.value_text.specs.Words.{wordText}
+use Rattle.head_anchor.specs.Values.{anchorValue, blockHashValue, skipValue, slotValue}
+use Rattle.value_text.specs.declared.page.Page.{Page}
 use Rattle.call_value.proofs.Back.{went-on}
 
 -- ---- given texts
@@ -99,27 +103,27 @@ module _ {A : Type 0} (text : A → List ℕ) (r : Rest) (t : List ℕ) where
 
 -- ---- anchors
 
-got-only : (r : Rest) (t : List ℕ) (m : HashWord) → lineHash (wordHere r) ≡ m → blockHashGot m (pastWord r) .next ≡ at t → r ≡ at (blockHashText (blockHashGot m (pastWord r) .value) ++ t)
-unfolding blockHashGot blockHashText
+got-only : (r : Rest) (t : List ℕ) (m : HashWord) → lineHash (wordHere r) ≡ m → blockHashGot m (pastWord r) .next ≡ at t → r ≡ at (blockHashText Page.Line (blockHashGot m (pastWord r) .value) ++ t)
+unfolding blockHashGot blockHashText valueText wordText hashText blockHashValue
 got-only r t (HashWord.Value h) f g = rw (line-hash-only (wordHere r) h f .0) at (past-only r t g)
 got-only r t HashWord.Bad f g = absurd (went-on t g)
 
-block-hash-read : (r : Rest) (t : List ℕ) → readBlockHash r .next ≡ at t → r ≡ at (blockHashText (readBlockHash r .value) ++ t)
-unfolding readBlockHash blockHashText
+block-hash-read : (r : Rest) (t : List ℕ) → readBlockHash r .next ≡ at t → r ≡ at (blockHashText Page.Line (readBlockHash r .value) ++ t)
+unfolding readBlockHash blockHashText valueText wordText hashText blockHashValue
 block-hash-read r t =
-    chosen-only blockHashText r t (says (ascii "none") r) _ _
+    chosen-only (blockHashText Page.Line) r t (says (ascii "none") r) _ _
     (λ f g. says-only (ascii "none") r t f g)
     (got-only r t (lineHash (wordHere r)) refl)
 
-anchor-read : (r : Rest) (t : List ℕ) → readAnchor r .next ≡ at t → r ≡ at (anchorText (readAnchor r .value) ++ t)
-unfolding readAnchor anchorText
+anchor-read : (r : Rest) (t : List ℕ) → readAnchor r .next ≡ at t → r ≡ at (anchorText Page.Line (readAnchor r .value) ++ t)
+unfolding readAnchor anchorText valueText anchorValue blockHashText
 anchor-read r t e =
     after-only (ascii "(") r _ (number-read _ _ (after-only (ascii " ") _ _ (block-hash-read _ _ (after-only (ascii ")") _ t e)))) ∙ simp append-assoc
 
-slot-read : (r : Rest) (t : List ℕ) → readSlot r .next ≡ at t → r ≡ at (slotText (readSlot r .value) ++ t)
-unfolding readSlot slotText
+slot-read : (r : Rest) (t : List ℕ) → readSlot r .next ≡ at t → r ≡ at (slotText Page.Line (readSlot r .value) ++ t)
+unfolding readSlot slotText valueText wordText slotValue anchorText
 slot-read r t =
-    chosen-only slotText r t (says (ascii "none") r) _ _
+    chosen-only (slotText Page.Line) r t (says (ascii "none") r) _ _
     (λ f g. says-only (ascii "none") r t f g)
     (anchor-read r t)
 
@@ -130,7 +134,7 @@ unfolding spacedNumber
 spaced-number-only r t e = after-only (ascii " ") r _ (number-read _ t e)
 
 failure-read : (r : Rest) (t : List ℕ) → readFailure (after (ascii "(") r) .next ≡ at t → r ≡ at (skipText (readFailure (after (ascii "(") r) .value) ++ t)
-unfolding readFailure skipText
+unfolding readFailure skipText valueText wordText skipValue
 failure-read r t =
     let s = after (ascii "(") r in
     chosen-only skipText r t (says (ascii "rpc") s) _ _
@@ -140,7 +144,7 @@ failure-read r t =
     (λ g. absurd (went-on t g)))
 
 skip-read : (r : Rest) (t : List ℕ) → readSkip r .next ≡ at t → r ≡ at (skipText (readSkip r .value) ++ t)
-unfolding readSkip skipText
+unfolding readSkip skipText valueText wordText skipValue
 skip-read r t =
     chosen-only skipText r t (says (ascii "none") r) _ _
     (λ f g. says-only (ascii "none") r t f g)
@@ -154,11 +158,11 @@ pub spaced-hash-only : (r : Rest) (t : List ℕ) → spacedHash r .next ≡ at t
 unfolding spacedHash
 spaced-hash-only r t e = after-only (ascii " ") r _ (hash-read _ t e)
 
-pub spaced-anchor-only : (r : Rest) (t : List ℕ) → spacedAnchor r .next ≡ at t → r ≡ at (ascii " " ++ (anchorText (spacedAnchor r .value) ++ t))
+pub spaced-anchor-only : (r : Rest) (t : List ℕ) → spacedAnchor r .next ≡ at t → r ≡ at (ascii " " ++ (anchorText Page.Line (spacedAnchor r .value) ++ t))
 unfolding spacedAnchor
 spaced-anchor-only r t e = after-only (ascii " ") r _ (anchor-read _ t e)
 
-pub spaced-slot-only : (r : Rest) (t : List ℕ) → spacedSlot r .next ≡ at t → r ≡ at (ascii " " ++ (slotText (spacedSlot r .value) ++ t))
+pub spaced-slot-only : (r : Rest) (t : List ℕ) → spacedSlot r .next ≡ at t → r ≡ at (ascii " " ++ (slotText Page.Line (spacedSlot r .value) ++ t))
 unfolding spacedSlot
 spaced-slot-only r t e = after-only (ascii " ") r _ (slot-read _ t e)
 

@@ -12,7 +12,7 @@ use Rattle.script_call.proofs.Back.{sheet-back}
 use Rattle.script_call.specs.Texts.{sheetCallText}
 use Rattle.script_sheet.specs.Sheets.{lifeLines, linesOf, sheetText}
 use Rattle.script_value.specs.Buffers.{bufferAfter, written}
-use Rattle.script_value.specs.Texts.{anchorText}
+use Rattle.value_text.specs.Texts.{anchorText}
 use Rattle.sheet_lines.specs.Lines.{countLine, currentLine, generationText, installedLine, previousLine, supersededLine, waiterLine, waiterLines}
 use Rattle.text.specs.Ascii.{ascii}
 use Rattle.text.specs.Decimals.{decimal}
@@ -21,7 +21,7 @@ use Rattle.head_driver.specs.declared.head_lifecycle.Driver.{Driver}
 use Rattle.head_ready.specs.declared.delta_snapshot.GenerationSlot.{GenerationSlot}
 use Rattle.head_life.specs.declared.head_lifecycle.HeadLifecycle.{HeadLifecycle}
 use Rattle.script_call.specs.declared.LineCall.{LineCall}
-use Rattle.script_value.specs.declared.page.Page.{Page}
+use Rattle.value_text.specs.declared.page.Page.{Page}
 use Rattle.rules.specs.Sheets.{onto, sheetInto, toLastFeed, wroteOf}
 use Rattle.rules.specs.Statements.{SheetIsText}
 

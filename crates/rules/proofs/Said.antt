@@ -8,15 +8,15 @@ use Rattle.answer_back.proofs.Forms.{line-form}
 use Rattle.driver.specs.Turns.{lineText}
 use Rattle.head_driver.specs.Answers.{outcomeSaid, said}
 use Rattle.script_answer.specs.Lines.{refusalOn}
-use Rattle.script_value.specs.Texts.{anchorText}
-use Rattle.script_value.specs.Values.{valuesOn}
-use Rattle.script_value.specs.Words.{wordText}
+use Rattle.value_text.specs.Texts.{anchorText}
+use Rattle.value_text.specs.Values.{valuesOn}
+use Rattle.value_text.specs.Words.{wordText}
 use Rattle.text.specs.Ascii.{ascii}
 use Rattle.text.specs.Decimals.{decimal, decimalOn}
 use Rattle.driver.specs.declared.LineAnswer.{LineAnswer}
 use Rattle.head_driver.specs.declared.head_lifecycle.Answer.{Answer}
 use Rattle.head_gate.specs.declared.head_lifecycle.HeadOutcome.{HeadOutcome}
-use Rattle.script_value.specs.declared.page.Page.{Page}
+use Rattle.value_text.specs.declared.page.Page.{Page}
 use Rattle.rules.specs.Said.{Says, answerRefusal, lineRefusal, namesOn, outcomeRefusal, refusalLine}
 
 -- two texts that differ at a place are not one

@@ -2,14 +2,14 @@
 use Prim.Native.Nat.{ℕ}
 use mathlib.Core.List.{List, [], _∷_, _++_}
 use mathlib.Core.Path.{_≡_}
-use Rattle.script_value.specs.Texts.{anchorText}
+use Rattle.value_text.specs.Texts.{anchorText}
 use Rattle.text.specs.Ascii.{ascii}
 use Rattle.text.specs.Decimals.{decimal}
 use Rattle.driver.specs.declared.LineAnswer.{LineAnswer}
 use Rattle.head_anchor.specs.declared.storage_memo.ReadAnchor.{ReadAnchor}
 use Rattle.head_driver.specs.declared.head_lifecycle.Answer.{Answer}
 use Rattle.head_gate.specs.declared.head_lifecycle.HeadOutcome.{HeadOutcome}
-use Rattle.script_value.specs.declared.page.Page.{Page}
+use Rattle.value_text.specs.declared.page.Page.{Page}
 use Rattle.rules.specs.Refusals.{Refusal}
 
 -- ---- the refusals among the answers

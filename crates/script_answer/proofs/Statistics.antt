@@ -2,9 +2,9 @@
 use mathlib.Core.List.{_++_}
 use mathlib.Core.Path.{_≡_}
 use Rattle.head_driver.specs.Answers.{said}
-use Rattle.script_value.proofs.Rows.{values-then}
+use Rattle.value_text.proofs.Rows.{values-then}
 use Rattle.script_value.specs.Texts.{statsText}
-use Rattle.script_value.specs.Words.{wordText}
+use Rattle.value_text.specs.Words.{wordText}
 use Rattle.text.specs.Ascii.{ascii}
 use Rattle.head_count.specs.declared.head_lifecycle.HeadStats.{HeadStats}
 use Rattle.head_driver.specs.declared.head_lifecycle.Answer.{Answer}

@@ -2,12 +2,12 @@
 use Prim.Native.Nat.{ℕ, zero, suc}
 use mathlib.Core.List.{List, _++_}
 use Rattle.head_driver.specs.Answers.{Said, said}
-use Rattle.script_value.specs.Values.{valuesOn}
-use Rattle.script_value.specs.Words.{wordText}
+use Rattle.value_text.specs.Values.{valuesOn}
+use Rattle.value_text.specs.Words.{wordText}
 use Rattle.text.specs.Ascii.{ascii}
 use Rattle.text.specs.Decimals.{decimal}
 use Rattle.head_driver.specs.declared.head_lifecycle.Answer.{Answer}
-use Rattle.script_value.specs.declared.page.Page.{Page}
+use Rattle.value_text.specs.declared.page.Page.{Page}
 
 -- a refusal's number after a space, in front of s; 0 is no refusal
 unfoldable pub refusalOn : ℕ → List ℕ → List ℕ

@@ -17,11 +17,11 @@ use head_current::head_lifecycle::LastReport;
 use head_ready::head_lifecycle::HeadView;
 use script_outcome::outcome::put_report;
 use script_outcome::view::put_readiness;
-use script_value::anchor::put_slot;
 use script_value::counters::put_stats;
-use script_value::page::Page;
 use text_put::decimal::put_decimal;
 use text_put::put::put;
+use value_text::anchor::put_slot;
+use value_text::page::Page;
 
 pub(crate) fn put_ticket(buf: &mut [u8], at: usize, seq: Seq) -> usize
     requires { ⌜ at + 29 ≤ length (now buf) ⌝ }

@@ -8,9 +8,9 @@ use head_anchor::read_hub::CarryOutcome;
 use head_anchor::storage_memo::ReadAnchor;
 use head_gate::head_lifecycle::HeadOutcome;
 use script_outcome::outcome::put_outcome;
-use script_value::anchor::put_anchor;
-use script_value::page::Page;
 use text_put::put::put;
+use value_text::anchor::put_anchor;
+use value_text::page::Page;
 
 pub(crate) fn put_settled(buf: &mut [u8], at: usize, outcome: CarryOutcome) -> usize
     requires { ⌜ at + 62 ≤ length (now buf) ⌝ }

@@ -10,9 +10,10 @@ use Rattle.hash_text.specs.Ranges.{HashFits}
 use Rattle.head_anchor.specs.Values.{anchorValue, blockHashValue, slotValue}
 use Rattle.head_anchor.specs.Words.{Word}
 use Rattle.head_driver.specs.Answers.{statsValues}
-use Rattle.script_value.specs.Texts.{anchorText, blockHashText, slotText, spacedText, statsText}
-use Rattle.script_value.specs.Values.{hashText, valueText, valuesOn}
-use Rattle.script_value.specs.Words.{wordText}
+use Rattle.script_value.specs.Texts.{spacedText, statsText}
+use Rattle.value_text.specs.Texts.{anchorText, blockHashText, slotText}
+use Rattle.value_text.specs.Values.{hashText, valueText, valuesOn}
+use Rattle.value_text.specs.Words.{wordText}
 use Rattle.text.proofs.Back.{number-back}
 use Rattle.text.specs.Ascii.{ascii}
 use Rattle.text.specs.Decimals.{decimal}
@@ -23,7 +24,7 @@ use Rattle.head_anchor.specs.declared.storage_memo.AnchorSlot.{AnchorSlot}
 use Rattle.head_anchor.specs.declared.storage_memo.BlockHash.{BlockHash}
 use Rattle.head_anchor.specs.declared.storage_memo.ReadAnchor.{ReadAnchor}
 use Rattle.head_count.specs.declared.head_lifecycle.HeadStats.{HeadStats}
-use Rattle.script_value.specs.declared.page.Page.{Page}
+use Rattle.value_text.specs.declared.page.Page.{Page}
 use Rattle.script_back.specs.Ranges.{AnchorFits, BlockHashFits, Fits, SlotFits, StatsFit}
 use Rattle.script_back.specs.Reads.{got, map, orWord, readAnchor, readBlockHash, readHashOn, readSlot, readStats, spacedNumber}
 use Rattle.script_back.proofs.Keywords.{open-miss, word-hit}

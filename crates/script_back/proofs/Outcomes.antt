@@ -6,10 +6,11 @@ use mathlib.Core.Path.{_≡_, refl, ap, _∙_}
 use Rattle.head_anchor.specs.Values.{faultValue, linkValue, outcomeValue, skipValue}
 use Rattle.head_anchor.specs.Words.{Word}
 use Rattle.head_driver.specs.Answers.{endValue, readinessValue, reportValue, sourceValue}
-use Rattle.script_outcome.specs.Texts.{coldText, endText, faultText, linkText, outcomeText, readinessText, reportText, skipText, sourceText}
+use Rattle.script_outcome.specs.Texts.{coldText, endText, faultText, linkText, outcomeText, readinessText, reportText, sourceText}
+use Rattle.value_text.specs.Texts.{skipText}
 use Rattle.script_value.specs.Texts.{spacedText}
-use Rattle.script_value.specs.Values.{valueText}
-use Rattle.script_value.specs.Words.{wordText}
+use Rattle.value_text.specs.Values.{valueText}
+use Rattle.value_text.specs.Words.{wordText}
 use Rattle.text.proofs.Back.{past-back, says-back}
 use Rattle.text.specs.Ascii.{ascii}
 use Rattle.text.specs.Rests.{after, at, says, step}

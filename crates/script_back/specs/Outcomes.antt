@@ -2,7 +2,7 @@
 use mathlib.Core.List.{List}
 use Rattle.hash.specs.Logic.{if}
 use Rattle.head_anchor.specs.Words.{Word}
-use Rattle.script_value.specs.Words.{wordText}
+use Rattle.value_text.specs.Words.{wordText}
 use Rattle.text.specs.Ascii.{ascii}
 use Rattle.text.specs.Rests.{Rest, Took, after, pastWord, says, stopped}
 use Rattle.head_anchor.specs.declared.bal_prefetch.BalSkip.{BalSkip}

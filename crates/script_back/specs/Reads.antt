@@ -4,7 +4,7 @@ use mathlib.Core.List.{List}
 use Rattle.hash.specs.Logic.{if}
 use Rattle.hash_text.specs.Reads.{readHash, readSheetHash}
 use Rattle.head_anchor.specs.Words.{Word}
-use Rattle.script_value.specs.Words.{wordText}
+use Rattle.value_text.specs.Words.{wordText}
 use Rattle.text.specs.Ascii.{ascii}
 use Rattle.text.specs.Rests.{Rest, Took, after, pastWord, readNumber, says}
 use Rattle.hash.specs.declared.Hash.{Hash}
@@ -12,7 +12,7 @@ use Rattle.head_anchor.specs.declared.storage_memo.AnchorSlot.{AnchorSlot}
 use Rattle.head_anchor.specs.declared.storage_memo.BlockHash.{BlockHash}
 use Rattle.head_anchor.specs.declared.storage_memo.ReadAnchor.{ReadAnchor}
 use Rattle.head_count.specs.declared.head_lifecycle.HeadStats.{HeadStats}
-use Rattle.script_value.specs.declared.page.Page.{Page}
+use Rattle.value_text.specs.declared.page.Page.{Page}
 
 -- ---- how readers are joined
 

@@ -8,10 +8,11 @@ use Rattle.head_driver.specs.Answers.{outcomeSaid, said, statsValues}
 use Rattle.script_answer.specs.Answers.{answerLine}
 use Rattle.script_answer.specs.Lines.{answerText, refusalOn, saidText}
 use Rattle.script_outcome.specs.Texts.{endText, linkText, outcomeText, readinessText, reportText, sourceText}
-use Rattle.script_value.proofs.Rows.{values-then}
-use Rattle.script_value.specs.Texts.{anchorText, slotText, spacedText, statsText}
-use Rattle.script_value.specs.Values.{valueText, valuesOn}
-use Rattle.script_value.specs.Words.{wordText}
+use Rattle.value_text.proofs.Rows.{values-then}
+use Rattle.script_value.specs.Texts.{spacedText, statsText}
+use Rattle.value_text.specs.Texts.{anchorText, slotText}
+use Rattle.value_text.specs.Values.{valueText, valuesOn}
+use Rattle.value_text.specs.Words.{wordText}
 use Rattle.text.specs.Ascii.{ascii}
 use Rattle.text.specs.Decimals.{decimal, decimalOn}
 use Rattle.head_anchor.specs.declared.read_hub.CarryOutcome.{CarryOutcome}
@@ -24,7 +25,7 @@ use Rattle.head_current.specs.declared.head_lifecycle.LastReport.{LastReport}
 use Rattle.head_driver.specs.declared.head_lifecycle.Answer.{Answer}
 use Rattle.head_gate.specs.declared.head_lifecycle.HeadOutcome.{HeadOutcome}
 use Rattle.head_ready.specs.declared.head_lifecycle.HeadView.{HeadView}
-use Rattle.script_value.specs.declared.page.Page.{Page}
+use Rattle.value_text.specs.declared.page.Page.{Page}
 use Rattle.script_lengths.specs.Statements.{AnswerLength, AnswerRoom}
 use Rattle.script_lengths.proofs.Values.{anchor-most, end-most, link-most, outcome-most, readiness-most, report-most, slot-most, source-most, spaced-most, stats-most}
 

@@ -21,7 +21,7 @@ use Rattle.head_current.specs.declared.head_lifecycle.UnsettledHead.{UnsettledH
 use Rattle.head_driver.specs.declared.head_lifecycle.Driver.{Driver}
 use Rattle.head_ready.specs.declared.delta_snapshot.GenerationSlot.{GenerationSlot}
 use Rattle.head_life.specs.declared.head_lifecycle.HeadLifecycle.{HeadLifecycle}
-use Rattle.script_value.specs.declared.page.Page.{Page}
+use Rattle.value_text.specs.declared.page.Page.{Page}
 use Rattle.script_lengths.specs.Statements.{SheetLength, SheetRoom}
 use Rattle.script_lengths.proofs.Values.{anchor-most, hash-length, readiness-most, report-most, slot-most, spaced-most, stats-most}
 

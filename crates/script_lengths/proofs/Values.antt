@@ -8,11 +8,12 @@ use Rattle.hash_text.proofs.Back.{length-line-hash, length-sheet-hash}
 use Rattle.head_anchor.specs.Values.{blockHashValue, faultValue, linkValue, outcomeValue, skipValue, slotValue}
 use Rattle.head_driver.specs.Answers.{endValue, readinessValue, reportValue, sourceValue}
 use Rattle.script_back.proofs.Anchors.{anchor-form}
-use Rattle.script_outcome.specs.Texts.{coldText, endText, faultText, linkText, outcomeText, readinessText, reportText, skipText, sourceText}
+use Rattle.script_outcome.specs.Texts.{coldText, endText, faultText, linkText, outcomeText, readinessText, reportText, sourceText}
+use Rattle.value_text.specs.Texts.{skipText, anchorText, blockHashText, slotText}
 use Rattle.script_value.proofs.Halves.{stats-split}
-use Rattle.script_value.specs.Texts.{anchorText, blockHashText, fourText, slotText, spacedText, statsText}
-use Rattle.script_value.specs.Values.{hashText, valueText}
-use Rattle.script_value.specs.Words.{wordText}
+use Rattle.script_value.specs.Texts.{fourText, spacedText, statsText}
+use Rattle.value_text.specs.Values.{hashText, valueText}
+use Rattle.value_text.specs.Words.{wordText}
 use Rattle.text.proofs.Back.{length-decimal}
 use Rattle.text.specs.Ascii.{ascii}
 use Rattle.text.specs.Decimals.{decimal}
@@ -29,7 +30,7 @@ use Rattle.head_current.specs.declared.head_lifecycle.LastReport.{LastReport}
 use Rattle.head_ready.specs.declared.head_lifecycle.HeadCold.{HeadCold}
 use Rattle.head_ready.specs.declared.head_lifecycle.HeadReadiness.{HeadReadiness}
 use Rattle.head_ready.specs.declared.head_lifecycle.Source.{Source}
-use Rattle.script_value.specs.declared.page.Page.{Page}
+use Rattle.value_text.specs.declared.page.Page.{Page}
 
 -- ---- counters
 

@@ -4,7 +4,7 @@ use mathlib.Core.List.{List}
 use Rattle.head_anchor.specs.Values.{Value, faultValue, linkValue, outcomeValue, skipValue}
 use Rattle.head_anchor.specs.Words.{Word}
 use Rattle.head_driver.specs.Answers.{endValue, readinessValue, reportValue, sourceValue}
-use Rattle.script_value.specs.Values.{valueText}
+use Rattle.value_text.specs.Values.{valueText}
 use Rattle.head_anchor.specs.declared.bal_prefetch.BalSkip.{BalSkip}
 use Rattle.head_anchor.specs.declared.read_hub.CarryOutcome.{CarryOutcome}
 use Rattle.head_anchor.specs.declared.read_hub.Link.{Link}
@@ -13,16 +13,13 @@ use Rattle.head_current.specs.declared.head_lifecycle.LastReport.{LastReport}
 use Rattle.head_ready.specs.declared.head_lifecycle.HeadCold.{HeadCold}
 use Rattle.head_ready.specs.declared.head_lifecycle.HeadReadiness.{HeadReadiness}
 use Rattle.head_ready.specs.declared.head_lifecycle.Source.{Source}
-use Rattle.script_value.specs.declared.page.Page.{Page}
+use Rattle.value_text.specs.declared.page.Page.{Page}
 
 unfoldable pub linkText : Link → List ℕ
 linkText link = valueText Page.Line (linkValue link)
 
 unfoldable pub faultText : Link → List ℕ
 faultText link = valueText Page.Line (faultValue link)
-
-unfoldable pub skipText : BalSkip → List ℕ
-skipText skip = valueText Page.Line (skipValue skip)
 
 unfoldable pub coldText : Link → BalSkip → List ℕ
 coldText link skip = valueText Page.Line (Value.three (Value.word Word.cold) (faultValue link) (skipValue skip))

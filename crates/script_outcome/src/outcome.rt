@@ -1,7 +1,8 @@
 // Faults of links, skips, outcomes and reports as text.
 ghost use Prim.Native.Nat.{_+_, _≤_};
 ghost use lib.ListN.{length};
-ghost use Rattle.script_outcome.specs.Texts.{faultText, skipText, coldText, outcomeText, reportText};
+ghost use Rattle.script_outcome.specs.Texts.{faultText, coldText, outcomeText, reportText};
+ghost use Rattle.value_text.specs.Texts.{skipText};
 ghost use Rattle.text.specs.Writes.{Wrote};
 use head_anchor::bal_prefetch::BalSkip;
 use head_anchor::read_hub::CarryOutcome;

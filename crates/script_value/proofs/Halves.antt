@@ -6,7 +6,7 @@ use Rattle.head_driver.specs.Answers.{statsValues}
 use Rattle.text.specs.Decimals.{decimal}
 use Rattle.head_count.specs.declared.head_lifecycle.HeadStats.{HeadStats}
 use Rattle.script_value.specs.Texts.{fourText, spacedText, statsText}
-use Rattle.script_value.specs.Values.{valueText, valuesOn}
+use Rattle.value_text.specs.Values.{valueText, valuesOn}
 
 four : (a b c d t : List ℕ) → (a ++ (b ++ (c ++ d))) ++ t ≡ a ++ (b ++ (c ++ (d ++ t)))
 four a b c d t = simp append-assoc

@@ -1,5 +1,3 @@
--- Document 01, "Lines": the text of a value. Words and Values are the paper's; Texts names the text of each value; Buffers says what writing a whole text does.
-pub mod Words
-pub mod Values
+-- Texts names the text of the counters; Buffers says what writing a whole text does.
 pub mod Texts
 pub mod Buffers

@@ -1,27 +1,12 @@
--- A name for the text of each value with a hash, and of the counters.
+-- A name for the text of the counters, each after a space.
 use Prim.Native.Nat.{ℕ}
 use mathlib.Core.List.{List, [], _++_}
-use Rattle.head_anchor.specs.Values.{anchorValue, blockHashValue, slotValue}
 use Rattle.head_driver.specs.Answers.{statsValues}
 use Rattle.text.specs.Ascii.{ascii}
 use Rattle.text.specs.Decimals.{decimal}
-use Rattle.head_anchor.specs.declared.storage_memo.AnchorSlot.{AnchorSlot}
-use Rattle.head_anchor.specs.declared.storage_memo.BlockHash.{BlockHash}
-use Rattle.head_anchor.specs.declared.storage_memo.ReadAnchor.{ReadAnchor}
+use Rattle.value_text.specs.Values.{valuesOn}
 use Rattle.head_count.specs.declared.head_lifecycle.HeadStats.{HeadStats}
-use Rattle.script_value.specs.Values.{valueText, valuesOn}
-use Rattle.script_value.specs.declared.page.Page.{Page}
-
-unfoldable pub blockHashText : Page → BlockHash → List ℕ
-blockHashText p h = valueText p (blockHashValue h)
-
-unfoldable pub anchorText : Page → ReadAnchor → List ℕ
-anchorText p a = valueText p (anchorValue a)
-
-unfoldable pub slotText : Page → AnchorSlot → List ℕ
-slotText p s = valueText p (slotValue s)
-
--- ---- counters, each after a space
+use Rattle.value_text.specs.declared.page.Page.{Page}
 
 unfoldable pub spacedText : ℕ → List ℕ
 spacedText n = ascii " " ++ decimal n

@@ -1,6 +1,3 @@
-// The text of a value, and the writers of anchors and counters into a lent buffer, one for each value.
-// Knows nothing of an answer's line, nor of a sheet's.
-pub mod anchor;
+// The eight counters as text, and a text at the front of a lent buffer. Knows nothing of an answer's line, nor of a sheet's.
 pub mod buffer;
 pub mod counters;
-pub mod page;

@@ -14,9 +14,10 @@ use Rattle.script_back.proofs.Outcomes.{readiness-back, report-back}
 use Rattle.script_back.specs.Ranges.{AnchorFits, Fits, ReadinessFits, ReportFits, SlotFits, StatsFit}
 use Rattle.script_back.specs.Reads.{got, readAnchor, then}
 use Rattle.script_outcome.specs.Texts.{readinessText, reportText}
-use Rattle.script_value.specs.Texts.{anchorText, slotText, spacedText, statsText}
-use Rattle.script_value.specs.Values.{hashText}
-use Rattle.script_value.specs.Words.{wordText}
+use Rattle.script_value.specs.Texts.{spacedText, statsText}
+use Rattle.value_text.specs.Texts.{anchorText, slotText}
+use Rattle.value_text.specs.Values.{hashText}
+use Rattle.value_text.specs.Words.{wordText}
 use Rattle.sheet_lines.specs.Lines.{countLine, currentLine, deliveryText, generationText, installedLine, poseText, previousLine, supersededLine, unsettledText}
 use Rattle.hash_text.specs.Ranges.{HashFits}
 use Rattle.text.proofs.Back.{past-back, word-back}
@@ -34,7 +35,7 @@ use Rattle.head_current.specs.declared.head_lifecycle.SettledHead.{SettledHead}
 use Rattle.head_current.specs.declared.head_lifecycle.UnsettledHead.{UnsettledHead}
 use Rattle.head_ready.specs.declared.delta_snapshot.Generation.{Generation}
 use Rattle.head_ready.specs.declared.delta_snapshot.GenerationSlot.{GenerationSlot}
-use Rattle.script_value.specs.declared.page.Page.{Page}
+use Rattle.value_text.specs.declared.page.Page.{Page}
 use Rattle.sheet_back.specs.Heads.{headNamed, readCount, readCurrent, readDelivery, readGeneration, readHeld, readInstalled, readPose, readPreparing, readPrevious, readSettled, readSuperseded, readUnclaimed}
 use Rattle.sheet_back.proofs.Ranges.{anchor-range, hash-range, readiness-range, report-range}
 

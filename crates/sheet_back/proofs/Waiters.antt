@@ -10,7 +10,7 @@ use Rattle.alike.specs.Ranges as A
 use Rattle.script_back.proofs.Anchors.{anchor-back}
 use Rattle.script_back.specs.Ranges.{Fits}
 use Rattle.script_back.specs.Reads.{got, map, then}
-use Rattle.script_value.specs.Texts.{anchorText}
+use Rattle.value_text.specs.Texts.{anchorText}
 use Rattle.sheet_lines.specs.Lines.{waiterLine, waiterLines}
 use Rattle.text.proofs.Back.{number-back, past-back, word-back}
 use Rattle.text.specs.Ascii.{ascii}
@@ -21,7 +21,7 @@ use Rattle.text.specs.Words.{inWord, run}
 use Rattle.head_anchor.specs.declared.storage_memo.ReadAnchor.{ReadAnchor}
 use Rattle.head_count.specs.declared.head_lifecycle.Waiter.{Waiter}
 use Rattle.head_count.specs.declared.head_lifecycle.WaiterSlot.{WaiterSlot}
-use Rattle.script_value.specs.declared.page.Page.{Page}
+use Rattle.value_text.specs.declared.page.Page.{Page}
 use Rattle.sheet_back.specs.Waiters.{going, names, readWaiter, readWaiterAt, readWaiters, waiterNamed}
 use Rattle.sheet_back.proofs.Ranges.{anchor-range}
 

@@ -8,7 +8,7 @@ use Rattle.head_count.specs.Counters.{epochOf, seqOf}
 use Rattle.head_life.specs.Deliver.{deliveryOf}
 use Rattle.script_back.specs.Outcomes.{readReadiness, readReport}
 use Rattle.script_back.specs.Reads.{got, orWord, readAnchor, readHashOn, readSlot, readStats, spacedNumber, then}
-use Rattle.script_value.specs.Words.{wordText}
+use Rattle.value_text.specs.Words.{wordText}
 use Rattle.text.specs.Ascii.{ascii}
 use Rattle.text.specs.Rests.{Rest, Took, after, pastWord, stopped, wordHere}
 use Rattle.text.specs.Same.{sameText}
@@ -19,7 +19,7 @@ use Rattle.head_count.specs.declared.head_lifecycle.HeadStats.{HeadStats}
 use Rattle.head_current.specs.declared.head_lifecycle.CurrentHead.{CurrentHead}
 use Rattle.head_current.specs.declared.head_lifecycle.HeadDelivery.{HeadDelivery}
 use Rattle.head_ready.specs.declared.delta_snapshot.GenerationSlot.{GenerationSlot}
-use Rattle.script_value.specs.declared.page.Page.{Page}
+use Rattle.value_text.specs.declared.page.Page.{Page}
 
 -- ---- count
 

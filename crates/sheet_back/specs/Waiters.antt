@@ -11,7 +11,7 @@ use Rattle.text.specs.Rests.{Rest, Took, after, at, pastWord, readNumber, stopp
 use Rattle.text.specs.Same.{sameText}
 use Rattle.head_count.specs.declared.head_lifecycle.Waiter.{Waiter}
 use Rattle.head_count.specs.declared.head_lifecycle.WaiterSlot.{WaiterSlot}
-use Rattle.script_value.specs.declared.page.Page.{Page}
+use Rattle.value_text.specs.declared.page.Page.{Page}
 
 -- reading has not stopped
 unfoldable pub going : Rest → Bool

@@ -3,8 +3,9 @@ use Prim.Native.Nat.{ℕ, suc}
 use mathlib.Core.List.{List, [], _∷_, _++_}
 use Rattle.head_count.specs.Attempts.{settled}
 use Rattle.script_outcome.specs.Texts.{readinessText, reportText}
-use Rattle.script_value.specs.Texts.{anchorText, slotText, spacedText, statsText}
-use Rattle.script_value.specs.Values.{hashText}
+use Rattle.script_value.specs.Texts.{spacedText, statsText}
+use Rattle.value_text.specs.Texts.{anchorText, slotText}
+use Rattle.value_text.specs.Values.{hashText}
 use Rattle.text.specs.Ascii.{ascii}
 use Rattle.text.specs.Decimals.{decimal}
 use Rattle.head_anchor.specs.declared.storage_memo.AnchorSlot.{AnchorSlot}
@@ -17,7 +18,7 @@ use Rattle.head_current.specs.declared.head_lifecycle.CurrentHead.{CurrentHead}
 use Rattle.head_current.specs.declared.head_lifecycle.HeadDelivery.{HeadDelivery}
 use Rattle.head_current.specs.declared.head_lifecycle.UnsettledHead.{UnsettledHead}
 use Rattle.head_ready.specs.declared.delta_snapshot.GenerationSlot.{GenerationSlot}
-use Rattle.script_value.specs.declared.page.Page.{Page}
+use Rattle.value_text.specs.declared.page.Page.{Page}
 
 -- count: eight counters, then epoch
 unfoldable pub countLine : HeadStats → Epoch → List ℕ

@@ -10,12 +10,12 @@ use head_current::head_lifecycle::HeadDelivery;
 use head_current::head_lifecycle::SettledHead;
 use head_current::head_lifecycle::UnsettledHead;
 use script_outcome::outcome::put_report;
-use script_value::anchor::put_anchor;
-use script_value::anchor::put_slot;
 use script_value::counters::put_spaced;
-use script_value::page::Page;
-use script_value::page::put_hash_on;
 use text_put::put::put;
+use value_text::anchor::put_anchor;
+use value_text::anchor::put_slot;
+use value_text::page::Page;
+use value_text::page::put_hash_on;
 
 pub(crate) fn put_pose(buf: &mut [u8], at: usize, end: HeadCompletion) -> usize
     requires { ⌜ at + 9 ≤ length (now buf) ⌝ }

@@ -6,10 +6,10 @@ ghost use Rattle.text.specs.Writes.{Wrote};
 use head_ready::delta_snapshot::Generation;
 use head_ready::delta_snapshot::GenerationSlot;
 use script_outcome::view::put_readiness;
-use script_value::anchor::put_anchor;
 use script_value::counters::put_spaced;
-use script_value::page::Page;
 use text_put::put::put;
+use value_text::anchor::put_anchor;
+use value_text::page::Page;
 
 // Puts `A H READINESS`: the one place where what follows a generation's handle is written.
 pub(crate) fn put_held(buf: &mut [u8], at: usize, held: Generation) -> usize

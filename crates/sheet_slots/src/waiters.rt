@@ -5,10 +5,10 @@ ghost use Rattle.sheet_lines.specs.Lines.{waiterLine, waiterLines};
 ghost use Rattle.text.specs.Writes.{Wrote};
 use head_count::head_lifecycle::Waiter;
 use head_count::head_lifecycle::WaiterSlot;
-use script_value::anchor::put_anchor;
-use script_value::page::Page;
 use text_put::decimal::put_decimal;
 use text_put::put::put;
+use value_text::anchor::put_anchor;
+use value_text::page::Page;
 
 // Puts the line of waiter n. A free one has none.
 pub(crate) fn put_waiter(buf: &mut [u8], at: usize, n: u64, waiter: Waiter) -> usize

@@ -1,8 +1,8 @@
 use native.Mathlib.Omega.{arith}
 use borrow.Author.Needs.{needs}
 use Rattle.head_anchor.specs.Values.{linkValue}
-use Rattle.script_value.specs.Values.{valueText}
-use Rattle.script_value.specs.Words.{wordText}
+use Rattle.value_text.specs.Values.{valueText}
+use Rattle.value_text.specs.Words.{wordText}
 use Rattle.script_outcome.specs.Texts.{linkText}
 use Rattle.script_answer.proofs.words.put_link.Statement.{statement}
 use Rattle.script_answer.proofs.words.put_link.Tie as tie

@@ -1,8 +1,8 @@
 use native.Mathlib.Omega.{arith}
 use borrow.Author.Needs.{needs}
 use Rattle.head_driver.specs.Answers.{readinessValue}
-use Rattle.script_value.specs.Values.{valueText}
-use Rattle.script_value.specs.Words.{wordText}
+use Rattle.value_text.specs.Values.{valueText}
+use Rattle.value_text.specs.Words.{wordText}
 use Rattle.script_outcome.specs.Texts.{readinessText, reasonText}
 use Rattle.script_outcome.proofs.view.put_readiness.Statement.{statement}
 use Rattle.script_outcome.proofs.view.put_readiness.Tie as tie

@@ -1,7 +1,7 @@
 // Anchors as text.
 ghost use Prim.Native.Nat.{_+_, _≤_};
 ghost use lib.ListN.{length};
-ghost use Rattle.script_value.specs.Texts.{blockHashText, anchorText, slotText};
+ghost use Rattle.value_text.specs.Texts.{blockHashText, anchorText, slotText};
 ghost use Rattle.text.specs.Writes.{Wrote};
 use crate::page::Page;
 use crate::page::put_hash_on;

@@ -7,8 +7,8 @@ use Rattle.hash_text.specs.SheetHashes.{sheetHashText}
 use Rattle.head_anchor.specs.Values.{Value}
 use Rattle.text.specs.Ascii.{ascii}
 use Rattle.text.specs.Decimals.{decimal}
-use Rattle.script_value.specs.Words.{wordText}
-use Rattle.script_value.specs.declared.page.Page.{Page}
+use Rattle.value_text.specs.Words.{wordText}
+use Rattle.value_text.specs.declared.page.Page.{Page}
 
 -- a hash, in an answer and on a sheet
 unfoldable pub hashText : Page → Hash → List ℕ

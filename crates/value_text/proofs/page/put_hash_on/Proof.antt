@@ -1,8 +1,8 @@
 use native.Mathlib.Omega.{arith}
 use borrow.Author.Needs.{needs}
-use Rattle.script_value.specs.Values.{hashText}
-use Rattle.script_value.proofs.page.put_hash_on.Statement.{statement}
-use Rattle.script_value.proofs.page.put_hash_on.Tie as tie
+use Rattle.value_text.specs.Values.{hashText}
+use Rattle.value_text.proofs.page.put_hash_on.Statement.{statement}
+use Rattle.value_text.proofs.page.put_hash_on.Tie as tie
 
 returns : tie.Need-returns
 unfolding hashText

@@ -1,7 +1,7 @@
 // Where a value is written. Only the text of a hash depends on it.
 ghost use Prim.Native.Nat.{_+_, _≤_};
 ghost use lib.ListN.{length};
-ghost use Rattle.script_value.specs.Values.{hashText};
+ghost use Rattle.value_text.specs.Values.{hashText};
 ghost use Rattle.text.specs.Writes.{Wrote};
 use hash::Hash;
 use hash_text::put_hash;

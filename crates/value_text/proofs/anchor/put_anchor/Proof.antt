@@ -2,11 +2,11 @@ use native.Mathlib.Omega.{arith}
 use borrow.Author.Needs.{needs}
 use Rattle.head_anchor.specs.Values.{anchorValue}
 use Rattle.text.proofs.Writes.{then}
-use Rattle.script_value.specs.Texts.{anchorText, blockHashText}
-use Rattle.script_value.specs.Values.{valueText}
-use Rattle.script_value.specs.Words.{wordText}
-use Rattle.script_value.proofs.anchor.put_anchor.Statement.{statement}
-use Rattle.script_value.proofs.anchor.put_anchor.Tie as tie
+use Rattle.value_text.specs.Texts.{anchorText, blockHashText}
+use Rattle.value_text.specs.Values.{valueText}
+use Rattle.value_text.specs.Words.{wordText}
+use Rattle.value_text.proofs.anchor.put_anchor.Statement.{statement}
+use Rattle.value_text.proofs.anchor.put_anchor.Tie as tie
 
 returns : tie.Need-returns
 unfolding anchorText anchorValue blockHashText valueText wordText

@@ -4,8 +4,8 @@ use mathlib.Core.List.{List, [], _∷_, _++_, append-assoc}
 use mathlib.Core.Path.{_≡_, refl, ap, _∙_}
 use Rattle.head_anchor.specs.Values.{Value}
 use Rattle.text.specs.Ascii.{ascii}
-use Rattle.script_value.specs.Values.{valueText, valuesOn}
-use Rattle.script_value.specs.declared.page.Page.{Page}
+use Rattle.value_text.specs.Values.{valueText, valuesOn}
+use Rattle.value_text.specs.declared.page.Page.{Page}
 
 pub values-then : (p : Page) (vs : List Value) (s : List ℕ) → valuesOn p vs [] ++ s ≡ valuesOn p vs s
 unfolding valuesOn

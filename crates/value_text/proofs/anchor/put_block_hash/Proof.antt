@@ -1,11 +1,11 @@
 use native.Mathlib.Omega.{arith}
 use borrow.Author.Needs.{needs}
 use Rattle.head_anchor.specs.Values.{blockHashValue}
-use Rattle.script_value.specs.Texts.{blockHashText}
-use Rattle.script_value.specs.Values.{valueText}
-use Rattle.script_value.specs.Words.{wordText}
-use Rattle.script_value.proofs.anchor.put_block_hash.Statement.{statement}
-use Rattle.script_value.proofs.anchor.put_block_hash.Tie as tie
+use Rattle.value_text.specs.Texts.{blockHashText}
+use Rattle.value_text.specs.Values.{valueText}
+use Rattle.value_text.specs.Words.{wordText}
+use Rattle.value_text.proofs.anchor.put_block_hash.Statement.{statement}
+use Rattle.value_text.proofs.anchor.put_block_hash.Tie as tie
 
 returns : tie.Need-returns
 unfolding blockHashText blockHashValue valueText wordText

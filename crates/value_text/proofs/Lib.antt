@@ -1,0 +1,2 @@
+-- Values in a row.
+pub mod Rows

@@ -1,0 +1,23 @@
+-- A name for the text of each value of an anchor or a list.
+use Prim.Native.Nat.{ℕ}
+use mathlib.Core.List.{List}
+use Rattle.head_anchor.specs.Values.{anchorValue, blockHashValue, skipValue, slotValue}
+use Rattle.head_anchor.specs.declared.bal_prefetch.BalSkip.{BalSkip}
+use Rattle.head_anchor.specs.declared.storage_memo.AnchorSlot.{AnchorSlot}
+use Rattle.head_anchor.specs.declared.storage_memo.BlockHash.{BlockHash}
+use Rattle.head_anchor.specs.declared.storage_memo.ReadAnchor.{ReadAnchor}
+use Rattle.value_text.specs.Values.{valueText}
+use Rattle.value_text.specs.declared.page.Page.{Page}
+
+unfoldable pub blockHashText : Page → BlockHash → List ℕ
+blockHashText p h = valueText p (blockHashValue h)
+
+unfoldable pub anchorText : Page → ReadAnchor → List ℕ
+anchorText p a = valueText p (anchorValue a)
+
+unfoldable pub slotText : Page → AnchorSlot → List ℕ
+slotText p s = valueText p (slotValue s)
+
+-- a skip holds no hash: it is the same on a line and on a sheet
+unfoldable pub skipText : BalSkip → List ℕ
+skipText skip = valueText Page.Line (skipValue skip)
