@@ -1,5 +1,5 @@
 -- What is left of a line from a place on, and the place after a word.
-use Prim.Native.Nat.{ℕ, _+_, _-_, _≤_, _<_, _^_, min}
+use Prim.Native.Nat.{ℕ, _+_, _-_, _<_, _^_}
 use native.Mathlib.Nat.{le-of-lt}
 use native.Mathlib.Omega.{arith}
 use mathlib.Core.Path.{_≡_}

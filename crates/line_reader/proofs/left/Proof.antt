@@ -73,7 +73,7 @@ module _ {M : Type 1} (𝓤 : URA M) (H : Heap 𝓤) (A : Atoms 𝓤) (W : Given
   abbrev mach : Val
   mach = T′.lowered d
 
-  -- the machine value of src
+  -- the machine value of the line
   abbrev v : Val
   v = sliceVal (d .line .ptr) (length (d .line .now))
 

@@ -46,7 +46,7 @@ use denote.Triple.Entry.{Vals, onEntry}
 use denote.Triple.Spec.{Meets, tripleOf}
 use denote.Triple.Table.{entered, cited}
 use denote.Triple.Walked.{says, Stays, stay-ref, walkOf, goes-ref, Walks, ends-at, walked, walk-meets}
-use Rattle.line_reader.specs.Taken.{wordNext, tookWord}
+use Rattle.line_reader.specs.Taken.{wordNext}
 use Rattle.line_reader.specs.declared.LineReader.{LineReader}
 use Rattle.line_reader.proofs.Lines.{place-after}
 use Rattle.line_reader.proofs.LineReader as T

@@ -20,7 +20,7 @@ use contract.BorrowLft.{meet-⊑-right}
 use contract.Lifetimes.{AllOutlive}
 use contract.Monad.{Fun, fact}
 use contract.Running.{givenOf, tables, tablesOf}
-use types.Kit.{Given, ‵, raw, _⊛_, ⋆, some, later, _$_, _∵_, !, qed, by, move, keep, drop, use1, use2, use3, split, join, pick, fsplit, fjoin, suffices, frame, await, done}
+use types.Kit.{Given, ‵, raw, _⊛_, ⋆, some, later, _$_, _∵_, !, qed, by, move, keep, use1, use2, use3, split, join, pick, fsplit, fjoin, suffices, frame, await, done}
 use types.Run.{look, init, forget, stop, from, load, addr, of-opd, and-then, no-more, assigns, land, returns, enter, alloc1, alloc0, params1, pass1, pass0, free1, free0}
 use types.SemTy.{Body}
 use types.Tokens.{lft-new}

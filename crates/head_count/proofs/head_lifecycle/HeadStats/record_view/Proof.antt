@@ -1,7 +1,7 @@
 -- `head_count::head_lifecycle::HeadStats::record_view` meets its contract: a walk of its MIR, by hand. The borrow is opened, one arm reads a counter, calls `raised` on it and writes the result back, and the borrow is closed at the record with that counter.
 -- All that the proof knows of `raised` is that it meets its contract.
 -- Assumes nothing.
-use mathlib.Core.Path.{_≡_, refl, ap, sym, _∙_}
+use mathlib.Core.Path.{_≡_, refl, ap, _∙_}
 use Prim.Native.Nat.{ℕ, _<_, _^_}
 use mathlib.Core.Bool.{Bool, true, false, not}
 use mathlib.Core.List.{[], _∷_, List}
@@ -14,7 +14,7 @@ use base.Logic.{SProp, ent, sep, emp, via, fst∗, snd∗, exE, id⊢}
 use base.Fml.{GName, Lft, Share, ftrue, fat, flft, fobs, fbor}
 use prog.Memory.{Memory}
 use prog.Routine.{Routine}
-use prog.Wp.{Heap, Env, Calls, Loops, WpFn, Tables}
+use prog.Wp.{Heap, Calls, Loops, WpFn, Tables}
 use ghost.Atoms.{Atoms, sem}
 use contract.Monad.{Fun, fact}
 use contract.Running.{givenOf, tables, tablesOf}
