@@ -148,15 +148,24 @@ impl HeadStats {
         }
     }
 
-    // A view was answered, ready or cold.
+    // A view was answered, ready or cold: the counter rises behind the reference. The Rust's `record_view`.
+    pub fn record_view(&mut self, ready: bool)
+        ensures { λ _. ⌜ now (self .exit) ≡ recordView ready (now (self .entry)) ⌝ }
+    {
+        if ready {
+            self.ready_views = raised(self.ready_views);
+        } else {
+            self.cold_views = raised(self.cold_views);
+        }
+    }
+
+    // The same of a record by value, which is lent to it. Each view that is counted comes this way.
     pub fn with_view(self, ready: bool) -> HeadStats
         ensures { λ r. ⌜ r ≡ recordView ready self ⌝ }
     {
-        if ready {
-            self.raise(Counter::ReadyViews)
-        } else {
-            self.raise(Counter::ColdViews)
-        }
+        let mut stats = self;
+        stats.record_view(ready);
+        stats
     }
 }
 

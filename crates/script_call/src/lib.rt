@@ -14,11 +14,11 @@ use head_count::head_lifecycle::Seq;
 use head_current::head_lifecycle::HeadTicket;
 use head_current::head_lifecycle::PrepareClaim;
 use head_step::head_lifecycle::Call;
+use line_reader::word_from;
 use text::place::Place;
 use text::place::at_end;
 use text::place::expect;
 use text::place::past;
-use text::place::word_from;
 use text::word::same;
 
 // What a line asks for. The sheet is no call on the driver: it is written into the caller's buffer.
