@@ -22,4 +22,5 @@ pub use start::{Start, COUNTERS};
 pub use text::Skip;
 
 pub use alloy::primitives::B256;
+pub use degenbot_simulation::sim::evm2::head_lifecycle::probe::Unshown;
 pub use degenbot_simulation::sim::storage_memo::ReadAnchor;

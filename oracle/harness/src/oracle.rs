@@ -12,7 +12,7 @@ use degenbot_core::errors::{ProviderError, ProviderResult};
 use degenbot_rpc::provider::{AlloyProvider, BlockAccessListResponse};
 use degenbot_simulation::sim::evm2::delta_snapshot::{DeltaHub, DeltaReport, RelevanceSet};
 use degenbot_simulation::sim::evm2::head_lifecycle::probe::{
-    self, CompletionSignal, GenerationPart, Pose, Source,
+    self, CompletionSignal, GenerationPart, Pose, Source, Unshown,
 };
 use degenbot_simulation::sim::evm2::head_lifecycle::{
     BalHeadDriver, HeadCompletion, HeadOutcome, HeadView,
@@ -79,6 +79,12 @@ impl Oracle {
     #[must_use]
     pub fn sequence(&self) -> (u64, u64) {
         self.driver.sequence()
+    }
+
+    /// What the driver holds and no sheet shows as it stands.
+    #[must_use]
+    pub fn unshown(&self) -> Unshown {
+        self.driver.unshown()
     }
 
     /// Answer one line, given without its line feed.

@@ -56,6 +56,36 @@ pub fn generate(seed: u64, recipe: &Recipe) -> (Script, Transcript) {
     (script, transcript)
 }
 
+/// Calls that go on from where `lines` lead, aimed at it, with no sheet among
+/// them. New anchors have these hashes and lie near those of the lines.
+pub(crate) fn further(lines: &Script, hashes: [B256; 7], seed: u64, calls: usize) -> Script {
+    let mut generator = Generator::new(seed, Start::default());
+    let mut oracle = Oracle::default();
+    for line in lines.lines() {
+        let answer = oracle.answer_line(line);
+        if let Some(call) = Call::read(line) {
+            generator.observe(call, &answer);
+        }
+    }
+    let current = generator.current.map_or(0, |(anchor, _)| anchor.number);
+    generator.lowest = current.wrapping_sub(1);
+    generator.hashes = hashes;
+    let mut script = Script::default();
+    let mut line = Vec::new();
+    while script.len() < calls {
+        let call = generator.call();
+        if call == Call::Sheet {
+            continue;
+        }
+        line.clear();
+        call.write(&mut line);
+        let answer = oracle.step(call);
+        generator.observe(call, &answer);
+        script.push(&line);
+    }
+    script
+}
+
 /// How often a call is made at each [`Pose`], in parts of the sum, and its maker.
 type Weighted = ([usize; 3], fn(&mut Generator) -> Call);
 

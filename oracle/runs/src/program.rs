@@ -15,6 +15,9 @@ const TIME_LIMIT: Duration = Duration::from_secs(120);
 /// program that prints without end does not fill the memory.
 const OUTPUT_MARGIN: u64 = 1 << 20;
 
+/// What a pipe surely holds.
+const PIPE: usize = 1 << 16;
+
 /// A command line that reads lines and prints answers. Each run is a new
 /// process, and so a new driver.
 #[derive(Clone, Debug)]
@@ -95,6 +98,34 @@ impl Program {
                 .unwrap_or_else(|error| Some(Failure::Status(error.to_string())));
             Ok(Run { output, failure })
         })
+    }
+
+    /// What the program prints on an input that a pipe holds whole: no thread
+    /// is needed for it, so many short runs go quickly.
+    ///
+    /// # Errors
+    ///
+    /// One line, if the program cannot be started or ends badly.
+    ///
+    /// # Panics
+    ///
+    /// If the input is longer.
+    pub fn answers(&self, input: &[u8]) -> Result<Vec<u8>, String> {
+        assert!(input.len() <= PIPE, "{} bytes", input.len());
+        let mut child = self.start()?;
+        let mut stdin = child.stdin.take().expect("standard input is piped");
+        // A program may stop reading early; what it printed tells.
+        let _ = stdin.write_all(input);
+        drop(stdin);
+        let mut output = Vec::new();
+        let mut stdout = child.stdout.take().expect("standard output is piped");
+        let read = stdout.read_to_end(&mut output);
+        let ended = read.and_then(|_| child.wait());
+        match ended {
+            Ok(status) if status.success() => Ok(output),
+            Ok(status) => Err(format!("{} ended with {status}", self.command[0])),
+            Err(error) => Err(format!("{}: {error}", self.command[0])),
+        }
     }
 
     fn start(&self) -> Result<Child, String> {

@@ -36,6 +36,14 @@ pub struct Parts {
     pub previous: Option<GenerationPart>,
 }
 
+/// What the driver holds and no sheet shows as it stands.
+#[derive(Clone, Copy, Debug, PartialEq, Eq)]
+pub struct Unshown {
+    pub superseded: Option<ReadAnchor>,
+    /// The epoch of the current head's attempt.
+    pub attempt: Option<u64>,
+}
+
 /// The current head.
 pub struct CurrentPart {
     pub anchor: ReadAnchor,
@@ -174,6 +182,16 @@ impl BalHeadDriver {
     pub fn sequence(&self) -> (u64, u64) {
         let state = self.state.lock();
         (state.seq, state.claim_epoch)
+    }
+
+    /// What a sheet masks or leaves out.
+    #[must_use]
+    pub fn unshown(&self) -> Unshown {
+        let state = self.state.lock();
+        Unshown {
+            superseded: state.superseded,
+            attempt: state.current.as_ref().map(|head| head.attempt().epoch),
+        }
     }
 
     /// Everything that a sheet shows.
