@@ -39,9 +39,10 @@ use Rattle.hash_text.specs.Reads as HashReads
 use Rattle.hash_text.specs.SheetHashes
 use Rattle.call_value.specs.Values as CallValues
 use Rattle.script_call.specs.Calls as CallLines
-use Rattle.script_value.specs.Texts as ValueTexts
-use Rattle.script_value.specs.Values as ValueForms
-use Rattle.script_value.specs.Words as WordTexts
+use Rattle.value_text.specs.Texts as ValueTexts
+use Rattle.value_text.specs.Values as ValueForms
+use Rattle.value_text.specs.Words as WordTexts
+use Rattle.script_value.specs.Texts as CounterTexts
 use Rattle.script_outcome.specs.Texts as OutcomeTexts
 use Rattle.script_answer.specs.Lines as AnswerTexts
 use Rattle.script_answer.specs.Answers as AnswerLines
@@ -100,8 +101,8 @@ lines = tt
 
 -- answer lines
 unfoldable answers : Unit {0}
-unfolding ValueTexts.blockHashText ValueTexts.anchorText ValueTexts.slotText ValueTexts.spacedText ValueTexts.fourText ValueTexts.statsText ValueForms.hashText
-    ValueForms.valueText ValueForms.valuesOn WordTexts.wordText OutcomeTexts.linkText OutcomeTexts.faultText OutcomeTexts.skipText OutcomeTexts.coldText
+unfolding ValueTexts.blockHashText ValueTexts.anchorText ValueTexts.slotText CounterTexts.spacedText CounterTexts.fourText CounterTexts.statsText ValueForms.hashText
+    ValueForms.valueText ValueForms.valuesOn WordTexts.wordText OutcomeTexts.linkText OutcomeTexts.faultText ValueTexts.skipText OutcomeTexts.coldText
     OutcomeTexts.outcomeText OutcomeTexts.reportText OutcomeTexts.reasonText OutcomeTexts.readinessText OutcomeTexts.sourceText OutcomeTexts.endText AnswerTexts.refusalOn
     AnswerTexts.saidText AnswerTexts.answerText AnswerLines.answerLine
 answers = tt

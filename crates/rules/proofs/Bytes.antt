@@ -7,7 +7,11 @@ use mathlib.Core.Path.{_≡_, refl}
 use lib.Dec.{leb, ltb}
 use borrow.Author.Tests.{leb-true, ltb-true}
 use Rattle.alike.proofs.Tests.{both-left, both-right, by-if}
-use Rattle.call_value.specs.Texts.{anchorText, blockHashText, skipText, slotText}
+use Rattle.head_anchor.specs.Values.{anchorValue, blockHashValue, skipValue, slotValue}
+use Rattle.value_text.specs.Texts.{anchorText, blockHashText, skipText, slotText}
+use Rattle.value_text.specs.Values.{hashText, valueText}
+use Rattle.value_text.specs.Words.{wordText}
+use Rattle.value_text.specs.declared.page.Page.{Page}
 use Rattle.hash.specs.Logic.{both}
 use Rattle.hash_text.specs.Hex.{glyph, hex, hexOn, hexText}
 use Rattle.hash_text.specs.LineHashes.{lineHashText}
@@ -90,8 +94,8 @@ hash-plain h = plain-then _ _ (hex-plain (h .w0)) (plain-then _ _ (hex-plain (h 
 
 -- ---- values
 
-block-hash-plain : (h : BlockHash) → AllPlain (blockHashText h)
-unfolding blockHashText plainTest
+block-hash-plain : (h : BlockHash) → AllPlain (blockHashText Page.Line h)
+unfolding blockHashText valueText wordText hashText blockHashValue plainTest
 block-hash-plain BlockHash.Unknown = quoted (ascii "none") refl
 block-hash-plain (BlockHash.Known h) = hash-plain h
 
@@ -104,17 +108,17 @@ spaced : (s : List ℕ) → AllPlain s → AllPlain (ascii " " ++ s)
 unfolding plainTest
 spaced s f = plain-then (ascii " ") s (quoted (ascii " ") refl) f
 
-anchor-plain : (a : ReadAnchor) → AllPlain (anchorText a)
-unfolding anchorText plainTest
+anchor-plain : (a : ReadAnchor) → AllPlain (anchorText Page.Line a)
+unfolding anchorText valueText anchorValue blockHashText plainTest
 anchor-plain a = plain-then (ascii "(") _ (quoted (ascii "(") refl) (plain-then _ _ (decimal-plain (a .number)) (spaced _ (ends _ (block-hash-plain (a .hash)))))
 
-slot-plain : (s : AnchorSlot) → AllPlain (slotText s)
-unfolding slotText plainTest
+slot-plain : (s : AnchorSlot) → AllPlain (slotText Page.Line s)
+unfolding slotText valueText wordText slotValue anchorText plainTest
 slot-plain AnchorSlot.Nothing = quoted (ascii "none") refl
 slot-plain (AnchorSlot.At a) = anchor-plain a
 
 skip-plain : (x : BalSkip) → AllPlain (skipText x)
-unfolding skipText plainTest
+unfolding skipText valueText wordText skipValue plainTest
 skip-plain BalSkip.Nothing = quoted (ascii "none") refl
 skip-plain BalSkip.NoHash = quoted (ascii "no-hash") refl
 skip-plain (BalSkip.Rpc n) = plain-then (ascii "(rpc ") _ (quoted (ascii "(rpc ") refl) (ends _ (decimal-plain n))
