@@ -11,6 +11,7 @@ mod probes;
 mod program;
 pub mod progress;
 mod random;
+pub mod recording;
 mod script;
 mod scripts;
 pub mod sheets;

@@ -108,6 +108,12 @@ impl Transcript {
         &self.text
     }
 
+    /// What stands for one line of the script, line feeds with.
+    #[must_use]
+    pub fn answer(&self, index: usize) -> &[u8] {
+        &self.text[span(&self.ends, index)]
+    }
+
     /// The script line whose answer holds the first byte where `other` differs.
     #[must_use]
     pub fn first_difference(&self, other: &[u8]) -> Option<usize> {

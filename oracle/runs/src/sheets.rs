@@ -30,7 +30,7 @@ const ALIKE: usize = 80;
 
 /// Histories for each pair of unequal sheets: the more, the nearer are those
 /// that stand beside each other.
-const HISTORIES_A_PAIR: usize = 3;
+const HISTORIES_A_PAIR: usize = 5;
 
 /// One pair in so many may differ in counters, and one in current, installed or
 /// previous anchor, which are told at once.

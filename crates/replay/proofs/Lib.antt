@@ -1,0 +1,2 @@
+-- The steps of single functions.
+pub mod Replaying

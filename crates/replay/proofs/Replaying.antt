@@ -1,0 +1,99 @@
+-- A recording's lines: their marks and numbers, the answers that are collected, and the comparison.
+use Prim.Native.Nat.{ℕ, zero, suc, _+_, _≤_, _<_}
+use native.Mathlib.Nat.{not-suc-le-zero}
+use native.Mathlib.Omega.{arith}
+use mathlib.Core.Bool.{Bool, true, false}
+use mathlib.Core.List.{List, [], _∷_, _++_}
+use mathlib.Core.Path.{_≡_, refl, ap, sym, _∙_}
+use lib.Dec.{eqb, leb}
+use lib.ListN.{length, take, drop, getD, length-append}
+use lib.Seq.{take-append-seam}
+use borrow.Author.Tests.{eq-eqb, le-leb, ne-eqb}
+use Rattle.hash.specs.Logic.{if, both}
+use Rattle.script.specs.Feeds.{Finishes, lastLeaves, lastPrints, lent, reading}
+use Rattle.script_line.specs.Parts.{Prints, atFront}
+use Rattle.text.specs.Places.{Reads, here}
+use Rattle.text.specs.Rests.{readNumber}
+use Rattle.text.specs.Same.{sameText}
+use Rattle.text.specs.Writes.{Wrote}
+use Rattle.text.proofs.Writes.{then}
+use Rattle.head_driver.specs.declared.head_lifecycle.Driver.{Driver}
+use Rattle.script_line.specs.declared.Printed.{Printed}
+use Rattle.text.specs.declared.place.Place.{Place}
+use Rattle.replay.specs.Recordings.{Collects, afterCall, callCompared, markOf, numberOf, recorded, sameFront}
+use Rattle.replay.specs.declared.Replay.{Replay}
+use Rattle.replay.specs.declared.Standing.{Standing}
+
+-- ---- the mark and the number
+
+pub mark-none : (l : List ℕ) (held : ℕ) → held ≡ 0 → 0 ≡ markOf l held
+unfolding markOf
+mark-none [] held e = refl
+mark-none (b ∷ l) held e = rw (eq-eqb held 0 e)
+
+pub mark-empty : (l : List ℕ) (held : ℕ) → length l ≡ 0 → 0 ≡ markOf l held
+unfolding markOf
+mark-empty [] held e = refl
+mark-empty (b ∷ l) held e = let z : 1 ≤ 0 = omega arith in absurd (not-suc-le-zero z)
+
+pub mark-first : (l : List ℕ) (held : ℕ) → (held ≡ 0 → ⊥) → (length l ≡ 0 → ⊥) → getD l 0 0 ≡ markOf l held
+unfolding markOf
+mark-first [] held ne nl = absurd (nl refl)
+mark-first (b ∷ l) held ne nl = rw (ne-eqb held 0 ne)
+
+-- a line that is marked has a byte
+pub marked-line : (l : List ℕ) (held k : ℕ) → k ≡ markOf l held → k ≡ 62 → 1 ≤ length l
+unfolding markOf
+marked-line [] held k e is = let z : 1 ≤ 0 = omega arith in absurd (not-suc-le-zero z)
+marked-line (b ∷ l) held k e is = omega arith
+
+pub marked-held : (l : List ℕ) (held k : ℕ) → k ≡ markOf l held → k ≡ 62 → 1 ≤ held
+unfolding markOf
+marked-held [] held k e is = let z : 1 ≤ 0 = omega arith in absurd (not-suc-le-zero z)
+marked-held (b ∷ l) zero k e is = let z : 1 ≤ 0 = omega arith in absurd (not-suc-le-zero z)
+marked-held (b ∷ l) (suc held) k e is = omega arith
+
+pub number-read : (line : List ℕ) (held value : ℕ) (next : Place) → held ≤ length line
+    → Reads (take held line) value next (readNumber (here (take held line) (Place.At 1))) → value ≡ numberOf line held
+unfolding numberOf
+number-read line held value next h reads = reads .is ∙ rw (le-leb held (length line) h)
+
+-- ---- the answer that is collected
+
+pub no-room : (wanted : ℕ) (line old : List ℕ) → length old ≤ wanted + length line → Collects wanted line old old wanted
+no-room wanted line old h = record {
+  put = λ k. let z : 1 ≤ 0 = omega arith in absurd (not-suc-le-zero z);
+  full = λ k. refl;
+  stays = λ k. refl;
+}
+
+pub with-room : (wanted : ℕ) (line old mid new : List ℕ) (at r : ℕ) → wanted + length line < length old
+    → Wrote old mid wanted at line → Wrote mid new at r (10 ∷ []) → Collects wanted line old new r
+with-room wanted line old mid new at r room p q = record {
+  put = λ k. then p q;
+  full = λ k. let z : 1 ≤ 0 = omega arith in absurd (not-suc-le-zero z);
+  stays = λ k. let z : 1 ≤ 0 = omega arith in absurd (not-suc-le-zero z);
+}
+
+-- ---- the comparison
+
+-- a text at the front of a buffer is compared as it is
+front-compared : (want : List ℕ) (m : ℕ) (text rest : List ℕ) → sameFront want m (text ++ rest) (length text) ≡ recorded want m text
+unfolding sameFront recorded
+front-compared want m text rest =
+    let l = length-append text rest in
+    rw (le-leb (length text) (length (text ++ rest)) (omega arith), take-append-seam text rest)
+
+-- what is printed, compared
+printed-compared : (want : List ℕ) (m : ℕ) (text : List ℕ) (left : Driver) (old new : List ℕ) (p : Printed) → Prints text left old new p
+    → sameFront want m new (p .written) ≡ recorded want m text
+unfolding atFront
+printed-compared want m text left old new p prints = rw (prints .bytes, prints .count) (front-compared want m text (drop (length text) old))
+
+pub compares : (d : Driver) (s : Standing) (call : List ℕ) (held : ℕ) (want old new : List ℕ) (p : Printed) (equal : Bool) (after : Standing)
+    → Finishes (reading d call held) old new p → equal ≡ sameFront want (s .wanted) new (p .written) → after ≡ afterCall s equal
+    → record { driver = p .driver; standing = after } ≡ callCompared d s call held want old
+unfolding callCompared
+compares d s call held want old new p equal after finishes e is =
+    let same : equal ≡ recorded want (s .wanted) (if (lent (reading d call held) old) (lastPrints (reading d call held)) []) = (e ∙ printed-compared want (s .wanted) _ _ old new p finishes) in
+    rw (is, same, finishes .driver)

@@ -1,0 +1,2 @@
+-- What a recording's lines do to a replay.
+pub mod Recordings

@@ -1,0 +1,384 @@
+// replay: makes the calls of the recorded runs in `runs` and counts the answers that are not the recorded ones. The recording is lines, each
+// marked by its first byte: `#N` begins a run whose nine counters all stand at N, `>CALL` is a call, and the `<TEXT` lines before it are its answer.
+ghost use Prim.Native.Nat.{_≤_};
+ghost use mathlib.Core.Path.{_≡_};
+ghost use lib.ListN.{length};
+ghost use Rattle.head_count.specs.Counters.{statsOf, up};
+ghost use Rattle.replay.specs.Recordings.{Collects, afterAnswer, afterCall, atRun, begun, callCompared, compared, markOf, numberOf, runBegun, sameFront, started};
+use head_anchor::storage_memo::AnchorSlot;
+use head_count::head_lifecycle::Epoch;
+use head_count::head_lifecycle::HeadStats;
+use head_count::head_lifecycle::Seq;
+use head_count::head_lifecycle::Waiter;
+use head_count::head_lifecycle::WaiterSlot;
+use head_current::head_lifecycle::CurrentHead;
+use head_driver::head_lifecycle::Driver;
+use head_life::head_lifecycle::HeadLifecycle;
+use head_ready::delta_snapshot::GenerationSlot;
+use libc::STDOUT_FILENO;
+use pending::keep;
+use script::finish;
+use text::decimal::take_decimal;
+use text::place::Place;
+use text::word::same;
+use text_put::put::put;
+
+// What was counted.
+struct Tally {
+    runs: u64,
+    answers: u64,
+    differences: u64,
+}
+
+// Where a replay stands: what was counted, how many bytes of the next call's answer were collected, how many bytes of a line are held, the
+// place in what was read, and whether there may be more.
+struct Standing {
+    tally: Tally,
+    wanted: usize,
+    held: usize,
+    at: usize,
+    more: bool,
+}
+
+// The same with the run's driver.
+struct Replay {
+    driver: Driver,
+    standing: Standing,
+}
+
+fn raised(n: u64) -> u64
+    ensures { λ r. ⌜ r ≡ up n ⌝ }
+{
+    if n < 0xffff_ffff_ffff_ffff { n + 1 } else { n }
+}
+
+fn begun(t: Tally) -> Tally
+    ensures { λ r. ⌜ r ≡ begun t ⌝ }
+{
+    Tally {
+        runs: raised(t.runs),
+        ..t
+    }
+}
+
+fn compared(t: Tally, equal: bool) -> Tally
+    ensures { λ r. ⌜ r ≡ compared t equal ⌝ }
+{
+    let answers = raised(t.answers);
+    if equal {
+        return Tally { answers, ..t };
+    }
+    Tally {
+        answers,
+        differences: raised(t.differences),
+        ..t
+    }
+}
+
+// Whether the first bytes of two buffers are the same text.
+fn same_front(a: &[u8], m: usize, b: &[u8], n: usize) -> bool
+    ensures { λ r. ⌜ r ≡ sameFront (now (a .entry)) m (now (b .entry)) n ⌝ }
+{
+    if m > a.len() {
+        return false;
+    }
+    if n > b.len() {
+        return false;
+    }
+    same(&a[..m], &b[..n])
+}
+
+fn all_at(n: u64) -> HeadStats
+    ensures { λ r. ⌜ r ≡ statsOf n n n n n n n n ⌝ }
+{
+    HeadStats {
+        delivered: n,
+        repeated: n,
+        superseded: n,
+        settled: n,
+        already_current: n,
+        discarded: n,
+        ready_views: n,
+        cold_views: n,
+    }
+}
+
+// A new driver but for its nine counters, which all stand at `n`; seq is delivered.
+fn started(n: u64) -> Driver
+    ensures { λ r. ⌜ r ≡ started n ⌝ }
+{
+    let slot = WaiterSlot {
+        waiter: Waiter::Free,
+    };
+    Driver {
+        life: HeadLifecycle {
+            current: CurrentHead::Absent,
+            superseded: AnchorSlot::Nothing,
+            installed: GenerationSlot::Nothing,
+            previous: GenerationSlot::Nothing,
+            seq: Seq(n),
+            claim_epoch: Epoch(n),
+            stats: all_at(n),
+        },
+        waiters: [slot; 16],
+    }
+}
+
+// A line of the recorded answer, with its line feed, behind those before it. One that finds no room is left out.
+fn collected(wanted: usize, line: &[u8], want: &mut [u8]) -> usize
+    ensures { λ r. ⌜ Collects wanted (now (line .entry)) (now (want .entry)) (now (want .exit)) r ⌝ }
+{
+    if wanted >= want.len() {
+        return wanted;
+    }
+    if line.len() >= want.len() - wanted {
+        return wanted;
+    }
+    let at = put(want, wanted, line);
+    put(want, at, b"\n")
+}
+
+// The mark of a line; 0 where there is none.
+fn mark(line: &[u8], held: usize) -> u8
+    ensures { λ r. ⌜ r ≡ markOf (now (line .entry)) held ⌝ }
+{
+    if held == 0 {
+        return 0;
+    }
+    if line.len() == 0 {
+        return 0;
+    }
+    line[0]
+}
+
+// The line is collected if it is one of an answer.
+fn answer_taken(mark: u8, wanted: usize, line: &[u8], held: usize, want: &mut [u8]) -> usize {
+    if mark != b'<' {
+        return wanted;
+    }
+    if held == 0 {
+        return wanted;
+    }
+    if held > line.len() {
+        return wanted;
+    }
+    collected(wanted, &line[1..held], want)
+}
+
+// The number behind the mark; 0 where there is none.
+fn number(line: &[u8], held: usize) -> u64
+    ensures { λ r. ⌜ r ≡ numberOf (now (line .entry)) held ⌝ }
+{
+    if held > line.len() {
+        return 0;
+    }
+    let taken = take_decimal(&line[..held], Place::At(1));
+    taken.value
+}
+
+// After a call whose answer was compared.
+fn after_call(s: Standing, equal: bool) -> Standing
+    ensures { λ r. ⌜ r ≡ afterCall s equal ⌝ }
+{
+    Standing {
+        tally: compared(s.tally, equal),
+        wanted: 0,
+        held: 0,
+        ..s
+    }
+}
+
+// The call behind the mark is made, and its answer compared with what was collected.
+fn call_compared(
+    d: Driver,
+    s: Standing,
+    call: &[u8],
+    held: usize,
+    want: &[u8],
+    out: &mut [u8],
+) -> Replay
+    ensures { λ r. ⌜ r ≡ callCompared d s (now (call .entry)) held (now (want .entry)) (now (out .entry)) ⌝ }
+{
+    let printed = finish(d, call, held, out);
+    let driver = printed.driver;
+    let equal = same_front(want, s.wanted, out, printed.written);
+    Replay {
+        driver,
+        standing: after_call(s, equal),
+    }
+}
+
+// At the begin of a run.
+fn at_run(s: Standing) -> Standing
+    ensures { λ r. ⌜ r ≡ atRun s ⌝ }
+{
+    Standing {
+        tally: begun(s.tally),
+        wanted: 0,
+        held: 0,
+        ..s
+    }
+}
+
+fn run_begun(s: Standing, n: u64) -> Replay
+    ensures { λ r. ⌜ r ≡ runBegun s n ⌝ }
+{
+    let driver = started(n);
+    Replay {
+        driver,
+        standing: at_run(s),
+    }
+}
+
+// After a line of an answer.
+fn after_answer(s: Standing, wanted: usize) -> Standing
+    ensures { λ r. ⌜ r ≡ afterAnswer s wanted ⌝ }
+{
+    Standing {
+        wanted,
+        held: 0,
+        ..s
+    }
+}
+
+// A line of the recording.
+fn record_taken(d: Driver, s: Standing, line: &[u8], want: &mut [u8], out: &mut [u8]) -> Replay {
+    let held = s.held;
+    let kind = mark(line, held);
+    if kind == b'>' {
+        return call_compared(d, s, &line[1..], held - 1, want, out);
+    }
+    if kind == b'#' {
+        return run_begun(s, number(line, held));
+    }
+    let wanted = answer_taken(kind, s.wanted, line, held, want);
+    Replay {
+        driver: d,
+        standing: after_answer(s, wanted),
+    }
+}
+
+// What was read, up to the end of a line or to its end.
+fn line_taken(
+    d: Driver,
+    s: Standing,
+    pending: &mut [u8],
+    input: &[u8],
+    want: &mut [u8],
+    out: &mut [u8],
+) -> Replay
+    requires { ⌜ 513 ≤ length (now pending) ⌝ }
+{
+    let kept = keep(pending, s.held, input, s.at);
+    let now = Standing {
+        held: kept.held,
+        at: kept.at,
+        ..s
+    };
+    if kept.ended {
+        return record_taken(d, now, pending, want, out);
+    }
+    Replay {
+        driver: d,
+        standing: now,
+    }
+}
+
+// All that was read. Each turn takes a byte at least, so there are no more turns than bytes.
+fn lines_taken(
+    d: Driver,
+    s: Standing,
+    pending: &mut [u8],
+    input: &[u8],
+    want: &mut [u8],
+    out: &mut [u8],
+) -> Replay
+    requires { ⌜ 513 ≤ length (now pending) ⌝ }
+{
+    let mut now = Replay {
+        driver: d,
+        standing: s,
+    };
+    let mut turns = input.len();
+    while turns > 0 && now.standing.at < input.len() {
+        now = line_taken(now.driver, now.standing, pending, input, want, out);
+        turns -= 1;
+    }
+    now
+}
+
+// Reads once.
+fn read_some(
+    fd: i32,
+    d: Driver,
+    s: Standing,
+    pending: &mut [u8],
+    want: &mut [u8],
+    out: &mut [u8],
+) -> Replay
+    requires { ⌜ 513 ≤ length (now pending) ⌝ }
+{
+    let mut input = io::large_buffer();
+    let got = libc::read(fd, &mut input);
+    let n = io::count(got, &input);
+    let now = Standing {
+        at: 0,
+        more: n > 0,
+        ..s
+    };
+    lines_taken(d, now, pending, &input[..n], want, out)
+}
+
+fn print(t: Tally) {
+    io::print_decimal(STDOUT_FILENO, t.runs);
+    io::write_all(STDOUT_FILENO, b" runs, ");
+    io::print_decimal(STDOUT_FILENO, t.answers);
+    io::write_all(STDOUT_FILENO, b" answers, ");
+    io::print_decimal(STDOUT_FILENO, t.differences);
+    io::write_all(STDOUT_FILENO, b" differences\n");
+}
+
+// A proved loop has to end, and nothing says that a file does. So the loop counts its reads down, from a number that no run uses up.
+fn counted(fd: i32) -> Tally {
+    let mut pending = [0u8; 514];
+    let mut want = [0u8; 4096];
+    let mut out = [0u8; 4096];
+    let standing = Standing {
+        tally: Tally {
+            runs: 0,
+            answers: 0,
+            differences: 0,
+        },
+        wanted: 0,
+        held: 0,
+        at: 0,
+        more: true,
+    };
+    let mut now = Replay {
+        driver: started(0),
+        standing,
+    };
+    let mut turns = u64::MAX;
+    while turns > 0 && now.standing.more {
+        now = read_some(
+            fd,
+            now.driver,
+            now.standing,
+            &mut pending,
+            &mut want,
+            &mut out,
+        );
+        turns -= 1;
+    }
+    now.standing.tally
+}
+
+fn main() {
+    let fd = os::open_read(b"runs");
+    if fd < 0 {
+        os::fail(b"runs");
+        return;
+    }
+    print(counted(fd));
+    libc::close(fd);
+}
