@@ -1,5 +1,6 @@
 -- Where the next line feed stands.
-use Prim.Native.Nat.{ℕ, _<_}
+use Prim.Native.Nat.{ℕ, suc, _≤_, _<_}
+use native.Mathlib.Nat.{le-of-suc-le-suc, not-suc-le-zero}
 use native.Mathlib.Omega.{arith}
 use mathlib.Core.Bool.{Bool, true, false, true≢false, false≢true}
 use mathlib.Core.List.{List, [], _∷_, _++_}
@@ -51,3 +52,32 @@ through-some (b ∷ s) h = go (eqb b 10)
     go : (t : Bool) → 0 < length (if t (b ∷ []) (b ∷ throughFeed s))
     go true = omega arith
     go false = omega arith
+
+-- the bytes before it are the front of the text
+pub feed-front : (s : List ℕ) → s ≡ toFeed s ++ drop (length (toFeed s)) s
+unfolding toFeed
+feed-front [] = refl
+feed-front (b ∷ s) = go (eqb b 10) (feed-front s)
+  where
+    go : (t : Bool) → s ≡ toFeed s ++ drop (length (toFeed s)) s → b ∷ s ≡ if t [] (b ∷ toFeed s) ++ drop (length (if t [] (b ∷ toFeed s))) (b ∷ s)
+    go true more = refl
+    go false more = ap (λ (r : List ℕ). b ∷ r) more
+
+-- there is one exactly where fewer bytes stand before it than there are
+pub feed-there : (s : List ℕ) → length (toFeed s) < length s → hasFeed s ≡ true
+unfolding hasFeed toFeed
+feed-there [] h = absurd (not-suc-le-zero h)
+feed-there (b ∷ s) h = go (eqb b 10) (feed-there s) h
+  where
+    go : (t : Bool) → (length (toFeed s) < length s → hasFeed s ≡ true) → length (if t [] (b ∷ toFeed s)) < suc (length s) → if t true (hasFeed s) ≡ true
+    go true more k = refl
+    go false more k = more (le-of-suc-le-suc k)
+
+pub feed-not-there : (s : List ℕ) → length s ≤ length (toFeed s) → hasFeed s ≡ false
+unfolding hasFeed toFeed
+feed-not-there [] h = refl
+feed-not-there (b ∷ s) h = go (eqb b 10) (feed-not-there s) h
+  where
+    go : (t : Bool) → (length s ≤ length (toFeed s) → hasFeed s ≡ false) → suc (length s) ≤ length (if t [] (b ∷ toFeed s)) → if t true (hasFeed s) ≡ false
+    go true more k = absurd (not-suc-le-zero k)
+    go false more k = more (le-of-suc-le-suc k)

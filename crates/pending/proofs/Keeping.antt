@@ -1,61 +1,145 @@
--- The loop of `keep`: what is kept from a place on is what is kept from the first place on.
-use Prim.Native.Nat.{ℕ, _+_, _≤_, _<_}
-use native.Mathlib.Nat.{add-zero}
+-- The steps of `feed_at`, `hold` and `keep`.
+use Prim.Native.Nat.{ℕ, zero, suc, _+_, _-_, _≤_, _<_}
+use native.Mathlib.Nat.{add-zero, add-suc, suc-add}
 use native.Mathlib.Numerals.{add-one}
 use native.Mathlib.Omega.{arith}
 use mathlib.Core.Bool.{Bool, true, false}
-use mathlib.Core.List.{List, [], _∷_}
+use mathlib.Core.List.{List, [], _∷_, _++_}
 use mathlib.Core.Logic.{_≢_}
-use mathlib.Core.Path.{_≡_, refl, ap, _∙_}
-use lib.ListN.{length, drop, getD, drop-of-length-le}
-use lib.Seq.{drop-cons}
-use borrow.Author.Tests.{eq-eqb, ne-eqb}
-use Rattle.pending.specs.Kept.{Keeps, Part, part, hasFeed, keepAll, keepByte, throughFeed, toFeed}
+use mathlib.Core.Path.{_≡_, refl, ap, sym, _∙_}
+use lib.Dec.{ltb}
+use lib.ListN.{length, take, drop, getD, set, length-append, length-drop, drop-of-length-le}
+use lib.Seq.{drop-cons, length-take-le, sets, take-all, take-append-seam, take-length, take-nil}
+use borrow.Author.Tests.{eq-eqb, ne-eqb, lt-ltb, le-ltb, ltb-true, ltb-false}
+use Rattle.hash.specs.Logic.{if}
+use Rattle.text.specs.Writes.{Wrote}
+use Rattle.pending.specs.Kept.{Keeps, Part, part, hasFeed, keepAll, keepByte, roomFor, throughFeed, toFeed}
+use Rattle.pending.proofs.Feeds.{feed-front, feed-not-there, feed-there, no-feed, through-feed}
 
--- from (buffer, n) at i on as much is kept, up to the same place, as from the first on
-pub record Goes (old : List ℕ) (held : ℕ) (input : List ℕ) (at : ℕ) (new : List ℕ) (n i : ℕ) : Type 0 where
-  pub kept : keepAll (part new n) (toFeed (drop i input)) ≡ keepAll (part old held) (toFeed (drop at input))
-  pub place : i + length (throughFeed (drop i input)) ≡ at + length (throughFeed (drop at input))
-  pub ended : hasFeed (drop i input) ≡ hasFeed (drop at input)
+-- ---- the loop of `feed_at`: from i on as many bytes stand before the line feed as make it whole from the first place on
 
-pub goes-first : (old : List ℕ) (held : ℕ) (input : List ℕ) (at : ℕ) → Goes old held input at old held at
-goes-first old held input at = record { kept = refl; place = refl; ended = refl }
+module _ (input : List ℕ) (at i : ℕ) (g : i + length (toFeed (drop i input)) ≡ at + length (toFeed (drop at input))) where
+  pub at-feed : i < length input → getD input i 0 ≡ 10 → i ≡ at + length (toFeed (drop at input))
+  unfolding toFeed
+  at-feed h e = let z : length (toFeed (drop i input)) ≡ 0 = rw (drop-cons input i 0 h, eq-eqb _ _ e) in omega arith
 
-module _ {old : List ℕ} {held : ℕ} {input : List ℕ} {at : ℕ} {new : List ℕ} {n i : ℕ} (g : Goes old held input at new n i) where
-  pub keep-feed : i < length input → getD input i 0 ≡ 10 → Keeps old held new input at (record { held = n; at = i + 1; ended = true })
+  pub at-end : length input ≤ i → i ≡ at + length (toFeed (drop at input))
+  unfolding toFeed
+  at-end h = let z : length (toFeed (drop i input)) ≡ 0 = rw (drop-of-length-le input h) in omega arith
+
+  pub past-byte : i < length input → getD input i 0 ≢ 10 → i + 1 + length (toFeed (drop (i + 1) input)) ≡ at + length (toFeed (drop at input))
+  unfolding toFeed
+  past-byte h ne =
+      let e : length (toFeed (drop i input)) ≡ suc (length (toFeed (drop (i + 1) input))) = rw (drop-cons input i 0 h, ne-eqb _ _ ne, add-one i) in
+      omega arith
+
+-- ---- what `hold` keeps of bytes is one text
+
+-- one more byte, or none where 513 are held
+kept-byte : (b : ℕ) (s buffer : List ℕ) (held : ℕ)
+    → ((buffer : List ℕ) (held : ℕ) → keepAll (part buffer held) s ≡ part (sets buffer held (take (513 - held) s)) (held + length (take (513 - held) s)))
+    → keepAll (keepByte (part buffer held) b) s ≡ part (sets buffer held (take (513 - held) (b ∷ s))) (held + length (take (513 - held) (b ∷ s)))
+unfolding keepByte
+kept-byte b s buffer held more = go (ltb held 513) refl
+  where
+    go : (t : Bool) → ltb held 513 ≡ t
+        → keepAll (if t (part (set buffer held b) (held + 1)) (part buffer held)) s ≡ part (sets buffer held (take (513 - held) (b ∷ s))) (held + length (take (513 - held) (b ∷ s)))
+    go true e =
+        let h : held < 513 = ltb-true held 513 e in
+        let k : 513 - held ≡ suc (513 - (held + 1)) = omega arith in
+        more (set buffer held b) (held + 1) ∙ rw (k, add-one held, suc-add, add-suc)
+    go false e =
+        let h : 513 ≤ held = ltb-false held 513 e in
+        let k : 513 - held ≡ 0 = omega arith in
+        more buffer held ∙ rw k
+
+pub kept-text : (s buffer : List ℕ) (held : ℕ) → keepAll (part buffer held) s ≡ part (sets buffer held (take (513 - held) s)) (held + length (take (513 - held) s))
+unfolding keepAll
+kept-text [] buffer held = rw (take-nil (513 - held), add-zero)
+kept-text (b ∷ s) buffer held = kept-byte b s buffer held (kept-text s)
+
+-- the bytes that are still kept are those that there is room for
+room-takes : (s : List ℕ) (held : ℕ) → take (roomFor (length s) held) s ≡ take (513 - held) s
+unfolding roomFor
+room-takes s held = go (ltb held 513) (ltb (length s) (513 - held)) refl refl
+  where
+    go : (t u : Bool) → ltb held 513 ≡ t → ltb (length s) (513 - held) ≡ u → take (if t (if u (length s) (513 - held)) 0) s ≡ take (513 - held) s
+    go true true e f = let h : length s < 513 - held = ltb-true _ _ f in take-length s ∙ sym (take-all (513 - held) s (omega arith))
+    go true false e f = refl
+    go false u e f = let h : 513 ≤ held = ltb-false _ _ e in let k : 513 - held ≡ 0 = omega arith in rw k
+
+module _ (s buffer : List ℕ) (held r : ℕ) (told : r ≡ roomFor (length s) held) where
+  pub none-held : r ≡ 0 → part buffer held ≡ keepAll (part buffer held) s
+  none-held z =
+      let e : take (513 - held) s ≡ [] = (sym (room-takes s held) ∙ ap (λ (n : ℕ). take n s) (sym told ∙ z)) in
+      sym (kept-text s buffer held ∙ rw (e, add-zero))
+
+  pub some-held : (new : List ℕ) (next : ℕ) → Wrote buffer new held next (take r s) → part new next ≡ keepAll (part buffer held) s
+  some-held new next w =
+      let e : take r s ≡ take (513 - held) s = (ap (λ (n : ℕ). take n s) told ∙ room-takes s held) in
+      rw (w .bytes, w .after, e) (sym (kept-text s buffer held))
+
+  pub room-within : r ≤ length s
+  unfolding roomFor
+  room-within = rw told (go (ltb held 513) (ltb (length s) (513 - held)) refl)
+    where
+      go : (t u : Bool) → ltb (length s) (513 - held) ≡ u → if t (if u (length s) (513 - held)) 0 ≤ length s
+      go true true f = omega arith
+      go true false f = let h : 513 - held ≤ length s = ltb-false _ _ f in h
+      go false u f = omega arith
+
+  pub room-held : (r ≡ 0 → ⊥) → held + r ≤ 513
+  unfolding roomFor
+  room-held ne = go (ltb held 513) (ltb (length s) (513 - held)) refl refl told
+    where
+      go : (t u : Bool) → ltb held 513 ≡ t → ltb (length s) (513 - held) ≡ u → r ≡ if t (if u (length s) (513 - held)) 0 → held + r ≤ 513
+      go true true e f k = let h : held < 513 = ltb-true _ _ e in let l : length s < 513 - held = ltb-true _ _ f in omega arith
+      go true false e f k = let h : held < 513 = ltb-true _ _ e in omega arith
+      go false u e f k = absurd (ne k)
+
+  pub put-room : (r ≡ 0 → ⊥) → 513 ≤ length buffer → held + length (take r s) ≤ length buffer
+  put-room ne room = let h = room-held ne in let w = room-within in rw (length-take-le r s w) (omega arith)
+
+-- ---- what `keep` does
+
+pub end-within : (input : List ℕ) (at end : ℕ) → at < length input → end ≡ at + length (toFeed (drop at input)) → end ≤ length input
+end-within input at end h told =
+    let u = toFeed (drop at input) in
+    let f : length (drop at input) ≡ length u + length (drop (length u) (drop at input)) = (ap length (feed-front (drop at input)) ∙ length-append u _) in
+    let l = length-drop at input in
+    omega arith
+
+module _ (old : List ℕ) (held : ℕ) (input : List ℕ) (at : ℕ) where
+  pub keep-nothing : length input ≤ at → Keeps old held old input at (record { held = held; at = at; ended = false })
   unfolding keepAll toFeed throughFeed hasFeed
-  keep-feed h e = record {
-    kept = rw (drop-cons input i 0 h, eq-eqb _ _ e) at (g .kept);
-    place = rw (drop-cons input i 0 h, eq-eqb _ _ e) at (g .place);
-    ended = rw (drop-cons input i 0 h, eq-eqb _ _ e) at (g .ended);
+  keep-nothing h = record {
+    kept = rw (drop-of-length-le input h);
+    place = rw (drop-of-length-le input h, add-zero);
+    ended = rw (drop-of-length-le input h);
   }
 
-  pub keep-end : length input ≤ i → Keeps old held new input at (record { held = n; at = i; ended = false })
-  unfolding keepAll toFeed throughFeed hasFeed
-  keep-end h = record {
-    kept = rw (drop-of-length-le input h) at (g .kept);
-    place = rw (drop-of-length-le input h, add-zero) at (g .place);
-    ended = rw (drop-of-length-le input h) at (g .ended);
-  }
+  -- what is kept are the bytes before the line feed
+  module _ (end : ℕ) (new : List ℕ) (n : ℕ) (h : at < length input) (told : end ≡ at + length (toFeed (drop at input)))
+      (holds : part new n ≡ keepAll (part old held) (take (end - at) (drop at input))) where
+    front : take (end - at) (drop at input) ≡ toFeed (drop at input)
+    front =
+        let k : end - at ≡ length (toFeed (drop at input)) = omega arith in
+        rw k (ap (take (length (toFeed (drop at input)))) (feed-front (drop at input)) ∙ take-append-seam (toFeed (drop at input)) _)
 
-  -- one more byte that is no line feed
-  module _ (h : i < length input) (ne : getD input i 0 ≢ 10) where
-    kept-more : toFeed (drop i input) ≡ getD input i 0 ∷ toFeed (drop (i + 1) input)
-    unfolding toFeed
-    kept-more = rw (drop-cons input i 0 h, ne-eqb _ _ ne, add-one i)
+    left : length (drop at input) ≡ length input - at
+    left = length-drop at input
 
-    through-more : throughFeed (drop i input) ≡ getD input i 0 ∷ throughFeed (drop (i + 1) input)
-    unfolding throughFeed
-    through-more = rw (drop-cons input i 0 h, ne-eqb _ _ ne, add-one i)
+    pub keep-feed : end < length input → Keeps old held new input at (record { held = n; at = end + 1; ended = true })
+    keep-feed g =
+        let l = left in
+        let there : hasFeed (drop at input) ≡ true = feed-there (drop at input) (omega arith) in
+        let e : length (throughFeed (drop at input)) ≡ length (toFeed (drop at input)) + 1
+        = (ap length (through-feed (drop at input) there) ∙ length-append (toFeed (drop at input)) (10 ∷ [])) in
+        record { kept = holds ∙ ap (keepAll (part old held)) front; place = omega arith; ended = sym there }
 
-    feed-later : hasFeed (drop i input) ≡ hasFeed (drop (i + 1) input)
-    unfolding hasFeed
-    feed-later = rw (drop-cons input i 0 h, ne-eqb _ _ ne, add-one i)
-
-    pub goes-on : (buf : List ℕ) (m : ℕ) → part buf m ≡ keepByte (part new n) (getD input i 0) → Goes old held input at buf m (i + 1)
-    unfolding keepAll
-    goes-on buf m e = record {
-      kept = ap (λ (x : Part). keepAll x (toFeed (drop (i + 1) input))) e ∙ (rw kept-more at (g .kept));
-      place = let p = rw through-more at (g .place) in omega arith;
-      ended = rw feed-later at (g .ended);
-    }
+    pub keep-end : length input ≤ end → Keeps old held new input at (record { held = n; at = end; ended = false })
+    keep-end g =
+        let l = left in
+        let not-there : hasFeed (drop at input) ≡ false = feed-not-there (drop at input) (omega arith) in
+        let e : length (throughFeed (drop at input)) ≡ length (toFeed (drop at input)) = ap length (no-feed (drop at input) not-there) in
+        record { kept = holds ∙ ap (keepAll (part old held)) front; place = omega arith; ended = sym not-there }

@@ -1,5 +1,5 @@
 -- The bytes of a line that has not ended, kept at the front of a buffer.
-use Prim.Native.Nat.{ℕ, _+_}
+use Prim.Native.Nat.{ℕ, _+_, _-_}
 use mathlib.Core.Bool.{Bool, true, false}
 use mathlib.Core.List.{List, [], _∷_}
 use mathlib.Core.Path.{_≡_}
@@ -27,6 +27,10 @@ keepByte p b = if (ltb (p .held) 513) (part (set (p .buffer) (p .held) b) (p .he
 unfoldable pub keepAll : Part → List ℕ → Part
 keepAll p [] = p
 keepAll p (b ∷ s) = keepAll (keepByte p b) s
+
+-- of so many more bytes those that are still kept
+unfoldable pub roomFor : ℕ → ℕ → ℕ
+roomFor count held = if (ltb held 513) (if (ltb count (513 - held)) count (513 - held)) 0
 
 -- the bytes before the first line feed
 unfoldable pub toFeed : List ℕ → List ℕ

@@ -1,8 +1,9 @@
 // The part of a line that has come so far, kept in a lent buffer until its line feed comes. Knows no call.
-ghost use Prim.Native.Nat.{_≤_};
+ghost use Prim.Native.Nat.{_+_, _≤_};
 ghost use mathlib.Core.Path.{_≡_};
-ghost use lib.ListN.{length};
-ghost use Rattle.pending.specs.Kept.{part, keepByte, Keeps};
+ghost use lib.ListN.{drop, length};
+ghost use Rattle.pending.specs.Kept.{Keeps, keepAll, part, roomFor, toFeed};
+use text_put::put::put;
 
 // How many bytes of the line are held now, the place in the input after what was taken, and whether that was a line feed.
 pub struct Kept {
@@ -11,16 +12,44 @@ pub struct Kept {
     pub ended: bool,
 }
 
-pub(crate) fn keep_byte(buffer: &mut [u8], held: usize, b: u8) -> usize
-    requires { ⌜ 513 ≤ length (now buffer) ⌝ }
-    ensures { λ r. ⌜ part (now (buffer .exit)) r ≡ keepByte (part (now (buffer .entry)) held) b ⌝ }
+// The place of the next line feed, or the input's end. A loop of its own, since most bytes are passed here.
+pub(crate) fn feed_at(input: &[u8], at: usize) -> usize
+    ensures { λ r. ⌜ r ≡ at + length (toFeed (drop at (now (input .entry)))) ⌝ }
+{
+    let mut i = at;
+    while i < input.len() {
+        if input[i] == b'\n' {
+            return i;
+        }
+        i += 1;
+    }
+    i
+}
+
+// How many of these bytes are still to be held.
+pub(crate) fn room_for(count: usize, held: usize) -> usize
+    ensures { λ r. ⌜ r ≡ roomFor count held ⌝ }
 {
     if held < 513 {
-        buffer[held] = b;
-        held + 1
+        if count < 513 - held {
+            count
+        } else {
+            513 - held
+        }
     } else {
-        held
+        0
     }
+}
+
+pub(crate) fn hold(buffer: &mut [u8], held: usize, bytes: &[u8]) -> usize
+    requires { ⌜ 513 ≤ length (now buffer) ⌝ }
+    ensures { λ r. ⌜ part (now (buffer .exit)) r ≡ keepAll (part (now (buffer .entry)) held) (now (bytes .entry)) ⌝ }
+{
+    let count = room_for(bytes.len(), held);
+    if count == 0 {
+        return held;
+    }
+    put(buffer, held, &bytes[..count])
 }
 
 // Keeps the bytes from a place of the input up to the next line feed, which is taken too, or to the input's end.
@@ -28,23 +57,26 @@ pub fn keep(buffer: &mut [u8], held: usize, input: &[u8], at: usize) -> Kept
     requires { ⌜ 513 ≤ length (now buffer) ⌝ }
     ensures { λ r. ⌜ Keeps (now (buffer .entry)) held (now (buffer .exit)) (now (input .entry)) at r ⌝ }
 {
-    let mut n = held;
-    let mut i = at;
-    while i < input.len() {
-        let b = input[i];
-        if b == b'\n' {
-            return Kept {
-                held: n,
-                at: i + 1,
-                ended: true,
-            };
-        }
-        n = keep_byte(buffer, n, b);
-        i += 1;
+    if at >= input.len() {
+        return Kept {
+            held,
+            at,
+            ended: false,
+        };
     }
-    Kept {
-        held: n,
-        at: i,
-        ended: false,
+    let end = feed_at(input, at);
+    let n = hold(buffer, held, &input[at..end]);
+    if end < input.len() {
+        Kept {
+            held: n,
+            at: end + 1,
+            ended: true,
+        }
+    } else {
+        Kept {
+            held: n,
+            at: end,
+            ended: false,
+        }
     }
 }

@@ -15,8 +15,7 @@ use Rattle.head_driver.specs.declared.head_lifecycle.Driver.{Driver}
 use Rattle.script_call.specs.declared.LineCall.{LineCall}
 use Rattle.script_value.specs.declared.buffer.Written.{Written}
 use Rattle.script_line.specs.Prints.{leaves, prints}
-use Rattle.script_line.specs.declared.Printed.{Printed}
-use Rattle.script_line.specs.Parts.{Prints, PutsAnswer, PutsTurn, atFront, bytesWritten, longer, sheetLength}
+use Rattle.script_line.specs.Parts.{Prints, PutsAnswer, atFront, bytesWritten, longer, sheetLength}
 
 -- an answer's line is put, and counted
 pub puts-answer : (a : LineAnswer) (old new : List ℕ) (w : Written) (n m r : ℕ) → 512 ≤ length old → AtFront 512 old new (lineText a) w
@@ -52,8 +51,7 @@ module _ (d : Driver) (old : List ℕ) (room : 4096 ≤ length old) where
   by-call LineCall.Sheet new n p = sheet-put new n p
   by-call (LineCall.Make c) new n p = record { driver = refl; bytes = p .bytes; count = p .count ∙ longer-none _ }
 
-  pub prints-line : (line mid new : List ℕ) (t : Turn) (r : Printed) → Takes d line old mid t → PutsTurn t mid new r
-      → Prints (prints d (call line)) (leaves d (call line)) old new r
-  prints-line line mid new t r takes p =
-      let q = by-call (call line) new (r .written) (rw (takes .turned, takes .sheet) at (p .puts)) in
-      record { driver = p .driver ∙ ap (λ (t : Turn). t .driver) (takes .turned) ∙ q .driver; bytes = q .bytes; count = q .count }
+  pub prints-line : (line mid new : List ℕ) (t : Turn) (n : ℕ) → Takes d line old mid t → PutsAnswer (t .answer) mid new n
+      → Prints (prints d (call line)) (leaves d (call line)) old new (record { driver = t .driver; written = n })
+  prints-line line mid new t n takes p =
+      rw (takes .turned) (by-call (call line) new n (rw (takes .turned, takes .sheet) at p))

@@ -7,7 +7,6 @@ use lib.ListN.{length, drop}
 use Rattle.driver.specs.Turns.{lineText}
 use Rattle.hash.specs.Logic.{if}
 use Rattle.driver.specs.declared.LineAnswer.{LineAnswer}
-use Rattle.driver.specs.declared.Turn.{Turn}
 use Rattle.head_driver.specs.declared.head_lifecycle.Driver.{Driver}
 use Rattle.script_value.specs.declared.buffer.Written.{Written}
 use Rattle.script_line.specs.declared.Printed.{Printed}
@@ -34,11 +33,6 @@ atFront text buffer = text ++ drop (length text) buffer
 pub record PutsAnswer (answer : LineAnswer) (old new : List ℕ) (r : ℕ) : Type 0 where
   pub bytes : new ≡ atFront (lineText answer) old
   pub count : r ≡ longer (length (lineText answer)) (sheetLength answer)
-
--- what is promised of a turn whose answer is put
-pub record PutsTurn (turn : Turn) (old new : List ℕ) (r : Printed) : Type 0 where
-  pub driver : r .driver ≡ turn .driver
-  pub puts : PutsAnswer (turn .answer) old new (r .written)
 
 -- what is promised of a line that is answered into a buffer
 pub record Prints (text : List ℕ) (left : Driver) (old new : List ℕ) (r : Printed) : Type 0 where

@@ -4,9 +4,8 @@ ghost use mathlib.Core.Path.{_≡_};
 ghost use lib.ListN.{length};
 ghost use Rattle.script_call.specs.Calls.{call};
 ghost use Rattle.script_line.specs.Prints.{leaves, prints};
-ghost use Rattle.script_line.specs.Parts.{Prints, PutsAnswer, PutsTurn, bytesWritten, longer, sheetLength};
+ghost use Rattle.script_line.specs.Parts.{Prints, PutsAnswer, bytesWritten, longer, sheetLength};
 use driver::LineAnswer;
-use driver::Turn;
 use driver::put_line;
 use driver::take_line;
 use head_driver::head_lifecycle::Driver;
@@ -53,22 +52,14 @@ pub(crate) fn put_answer(out: &mut [u8], answer: LineAnswer) -> usize
     longer(line, sheet_length(answer))
 }
 
-pub(crate) fn put_turn(turn: Turn, out: &mut [u8]) -> Printed
-    requires { ⌜ 512 ≤ length (now out) ⌝ }
-    ensures { λ r. ⌜ PutsTurn turn (now (out .entry)) (now (out .exit)) r ⌝ }
-{
-    let driver = turn.driver;
-    let answer = turn.answer;
-    Printed {
-        driver,
-        written: put_answer(out, answer),
-    }
-}
-
 // Answers a line at the front of a buffer, which serves as the sheet's buffer too.
 pub fn print_line(d: Driver, line: &[u8], out: &mut [u8]) -> Printed
     requires { ⌜ 4096 ≤ length (now out) ⌝ }
     ensures { λ r. ⌜ Prints (prints d (call (now (line .entry)))) (leaves d (call (now (line .entry)))) (now (out .entry)) (now (out .exit)) r ⌝ }
 {
-    put_turn(take_line(d, line, out), out)
+    let turn = take_line(d, line, out);
+    let driver = turn.driver;
+    let answer = turn.answer;
+    let written = put_answer(out, answer);
+    Printed { driver, written }
 }
