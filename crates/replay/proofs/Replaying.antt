@@ -1,13 +1,13 @@
 -- A recording's lines: their marks and numbers, the answers that are collected, and the comparison.
-use Prim.Native.Nat.{ℕ, zero, suc, _+_, _≤_, _<_}
+use Prim.Native.Nat.{ℕ, zero, suc, _+_, _-_, _≤_, _<_}
 use native.Mathlib.Nat.{not-suc-le-zero}
 use native.Mathlib.Omega.{arith}
 use mathlib.Core.Bool.{Bool, true, false}
 use mathlib.Core.List.{List, [], _∷_, _++_}
 use mathlib.Core.Path.{_≡_, refl, ap, sym, _∙_}
 use lib.Dec.{eqb, leb}
-use lib.ListN.{length, take, drop, getD, length-append}
-use lib.Seq.{take-append-seam}
+use lib.ListN.{length, take, drop, getD, length-append, length-drop}
+use lib.Seq.{take-all, take-append-seam}
 use borrow.Author.Tests.{eq-eqb, le-leb, ne-eqb}
 use Rattle.hash.specs.Logic.{if, both}
 use Rattle.script.specs.Feeds.{Finishes, lastLeaves, lastPrints, lent, reading}
@@ -20,7 +20,7 @@ use Rattle.text.proofs.Writes.{then}
 use Rattle.head_driver.specs.declared.head_lifecycle.Driver.{Driver}
 use Rattle.script_line.specs.declared.Printed.{Printed}
 use Rattle.text.specs.declared.place.Place.{Place}
-use Rattle.replay.specs.Recordings.{Collects, afterCall, callCompared, markOf, numberOf, recorded, sameFront}
+use Rattle.replay.specs.Recordings.{Collects, TakesAnswer, TakesRecord, afterAnswer, afterCall, callCompared, markOf, numberOf, recorded, runBegun, sameFront}
 use Rattle.replay.specs.declared.Replay.{Replay}
 use Rattle.replay.specs.declared.Standing.{Standing}
 
@@ -97,3 +97,53 @@ unfolding callCompared
 compares d s call held want old new p equal after finishes e is =
     let same : equal ≡ recorded want (s .wanted) (if (lent (reading d call held) old) (lastPrints (reading d call held)) []) = (e ∙ printed-compared want (s .wanted) _ _ old new p finishes) in
     rw (is, same, finishes .driver)
+
+-- ---- one line
+
+no : {A : Type 0} → 1 ≤ 0 → A
+no z = absurd (not-suc-le-zero z)
+
+module _ (mark wanted : ℕ) (line : List ℕ) (held : ℕ) (old : List ℕ) where
+  pub not-answer : (mark ≡ 60 → ⊥) → TakesAnswer mark wanted line held old old wanted
+  not-answer ne = record { collects = λ e. absurd (ne e); keeps = λ n. refl; stays = λ n. refl }
+
+  pub none-held : mark ≡ 60 → held ≡ 0 → TakesAnswer mark wanted line held old old wanted
+  none-held is z = record { collects = λ e h. no (omega arith); keeps = λ n. refl; stays = λ n. refl }
+
+  pub not-there : length line < held → TakesAnswer mark wanted line held old old wanted
+  not-there l = record { collects = λ e h k. no (omega arith); keeps = λ n. refl; stays = λ n. refl }
+
+  pub is-answer : mark ≡ 60 → (new : List ℕ) (r : ℕ) → Collects wanted (take (held - 1) (drop 1 line)) old new r → TakesAnswer mark wanted line held old new r
+  is-answer is new r c = record { collects = λ e h k. c; keeps = λ n. absurd (n is); stays = λ n. absurd (n is) }
+
+module _ (d : Driver) (s : Standing) (line want out : List ℕ) (kind : ℕ) (e : kind ≡ markOf line (s .held)) where
+  -- what follows the mark is all that follows
+  behind : 1 ≤ length line → take (length line - 1) (drop 1 line) ≡ drop 1 line
+  behind h = take-all (length line - 1) (drop 1 line) (rw length-drop (omega arith))
+
+  pub taken-call : kind ≡ 62 → 1 ≤ length line → (r : Replay) → r ≡ callCompared d s (take (length line - 1) (drop 1 line)) (s .held - 1) want out
+      → TakesRecord d s line want want out r
+  taken-call is h r told = record {
+    call = λ k. rw (behind h) at told;
+    run = λ k. no (omega arith);
+    other = λ n m. absurd (n (omega arith));
+    answer = λ k. no (omega arith);
+  }
+
+  pub taken-run : kind ≡ 35 → (n : ℕ) → n ≡ numberOf line (s .held) → (r : Replay) → r ≡ runBegun s n → TakesRecord d s line want want out r
+  taken-run is n number r told = record {
+    call = λ k. no (omega arith);
+    run = λ k. told ∙ ap (runBegun s) number;
+    other = λ p q. absurd (q (omega arith));
+    answer = λ k. no (omega arith);
+  }
+
+  pub taken-other : (kind ≡ 62 → ⊥) → (kind ≡ 35 → ⊥) → (want′ : List ℕ) (wanted : ℕ) (after : Standing) → TakesAnswer kind (s .wanted) line (s .held) want want′ wanted
+      → after ≡ afterAnswer s wanted → TakesRecord d s line want want′ out (record { driver = d; standing = after })
+  unfolding afterAnswer
+  taken-other n m want′ wanted after takes is = rw is (record {
+    call = λ k. absurd (n (omega arith));
+    run = λ k. absurd (m (omega arith));
+    other = λ p q. refl;
+    answer = λ k. rw (e ∙ k) at takes;
+  })

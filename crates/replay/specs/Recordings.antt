@@ -1,10 +1,10 @@
 -- A recording's lines: a run begins, an answer's line is collected, a call is made and its answer compared.
-use Prim.Native.Nat.{ℕ, _+_, _≤_, _<_}
+use Prim.Native.Nat.{ℕ, _+_, _-_, _≤_, _<_}
 use mathlib.Core.Bool.{Bool, true, false}
 use mathlib.Core.List.{List, [], _∷_, _++_}
 use mathlib.Core.Path.{_≡_}
 use lib.Dec.{eqb, leb}
-use lib.ListN.{length, take}
+use lib.ListN.{length, take, drop}
 use Rattle.hash.specs.Logic.{if, both}
 use Rattle.head_count.specs.Counters.{epochOf, seqOf, statsOf, up}
 use Rattle.head_reads.specs.Calls.{free}
@@ -84,3 +84,16 @@ callCompared d s call held want out = record {
   driver = if (lent (reading d call held) out) (lastLeaves (reading d call held)) d;
   standing = afterCall s (recorded want (s .wanted) (if (lent (reading d call held) out) (lastPrints (reading d call held)) []));
 }
+
+-- a line marked `<`, in the first bytes of a buffer, is collected; any other is not
+pub record TakesAnswer (mark wanted : ℕ) (line : List ℕ) (held : ℕ) (old new : List ℕ) (r : ℕ) : Type 0 where
+  pub collects : mark ≡ 60 → 0 < held → held ≤ length line → Collects wanted (take (held - 1) (drop 1 line)) old new r
+  pub keeps : (mark ≡ 60 → ⊥) → new ≡ old
+  pub stays : (mark ≡ 60 → ⊥) → r ≡ wanted
+
+-- a line of a recording: `>` is a call, which is made and compared; `#` begins a run; any other line leaves the driver and the counts, and `<` is collected
+pub record TakesRecord (d : Driver) (s : Standing) (line want want′ out : List ℕ) (r : Replay) : Type 0 where
+  pub call : markOf line (s .held) ≡ 62 → r ≡ callCompared d s (drop 1 line) (s .held - 1) want out
+  pub run : markOf line (s .held) ≡ 35 → r ≡ runBegun s (numberOf line (s .held))
+  pub other : (markOf line (s .held) ≡ 62 → ⊥) → (markOf line (s .held) ≡ 35 → ⊥) → r ≡ record { driver = d; standing = afterAnswer s (r .standing .wanted) }
+  pub answer : markOf line (s .held) ≡ 60 → TakesAnswer 60 (s .wanted) line (s .held) want want′ (r .standing .wanted)

@@ -4,7 +4,7 @@ ghost use Prim.Native.Nat.{_≤_};
 ghost use mathlib.Core.Path.{_≡_};
 ghost use lib.ListN.{length};
 ghost use Rattle.head_count.specs.Counters.{statsOf, up};
-ghost use Rattle.replay.specs.Recordings.{Collects, afterAnswer, afterCall, atRun, begun, callCompared, compared, markOf, numberOf, runBegun, sameFront, started};
+ghost use Rattle.replay.specs.Recordings.{Collects, TakesAnswer, TakesRecord, afterAnswer, afterCall, atRun, begun, callCompared, compared, markOf, numberOf, runBegun, sameFront, started};
 use head_anchor::storage_memo::AnchorSlot;
 use head_count::head_lifecycle::Epoch;
 use head_count::head_lifecycle::HeadStats;
@@ -152,7 +152,9 @@ fn mark(line: &[u8], held: usize) -> u8
 }
 
 // The line is collected if it is one of an answer.
-fn answer_taken(mark: u8, wanted: usize, line: &[u8], held: usize, want: &mut [u8]) -> usize {
+fn answer_taken(mark: u8, wanted: usize, line: &[u8], held: usize, want: &mut [u8]) -> usize
+    ensures { λ r. ⌜ TakesAnswer mark wanted (now (line .entry)) held (now (want .entry)) (now (want .exit)) r ⌝ }
+{
     if mark != b'<' {
         return wanted;
     }
@@ -242,7 +244,9 @@ fn after_answer(s: Standing, wanted: usize) -> Standing
 }
 
 // A line of the recording.
-fn record_taken(d: Driver, s: Standing, line: &[u8], want: &mut [u8], out: &mut [u8]) -> Replay {
+fn record_taken(d: Driver, s: Standing, line: &[u8], want: &mut [u8], out: &mut [u8]) -> Replay
+    ensures { λ r. ⌜ TakesRecord d s (now (line .entry)) (now (want .entry)) (now (want .exit)) (now (out .entry)) r ⌝ }
+{
     let held = s.held;
     let kind = mark(line, held);
     if kind == b'>' {

@@ -1,3 +1,4 @@
+-- Only what is collected changes.
 use mathlib.Core.Path.{refl}
 use Rattle.replay.specs.Recordings.{afterAnswer}
 use Rattle.replay.proofs.after_answer.Statement.{statement}

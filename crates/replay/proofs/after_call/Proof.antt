@@ -1,3 +1,4 @@
+-- The answer is counted, and nothing is collected of the next.
 use Rattle.replay.specs.Recordings.{afterCall}
 use Rattle.replay.proofs.after_call.Statement.{statement}
 use Rattle.replay.proofs.after_call.Tie as tie

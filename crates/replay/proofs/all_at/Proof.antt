@@ -1,3 +1,4 @@
+-- All eight counters at one number.
 use mathlib.Core.Path.{refl}
 use Rattle.replay.proofs.all_at.Statement.{statement}
 use Rattle.replay.proofs.all_at.Tie as tie

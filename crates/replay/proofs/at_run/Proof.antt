@@ -1,3 +1,4 @@
+-- The run is counted.
 use Rattle.replay.specs.Recordings.{atRun}
 use Rattle.replay.proofs.at_run.Statement.{statement}
 use Rattle.replay.proofs.at_run.Tie as tie

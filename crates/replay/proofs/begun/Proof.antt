@@ -1,3 +1,4 @@
+-- One more run.
 use Rattle.replay.specs.Recordings.{begun}
 use Rattle.replay.proofs.begun.Statement.{statement}
 use Rattle.replay.proofs.begun.Tie as tie

@@ -1,3 +1,4 @@
+-- One more answer, and one more difference where it is not the recorded one.
 use Rattle.replay.specs.Recordings.{compared}
 use Rattle.replay.proofs.compared.Statement.{statement}
 use Rattle.replay.proofs.compared.Tie as tie

@@ -1,3 +1,4 @@
+-- One more, and never above 2^64 - 1.
 use borrow.Author.Needs.{needs}
 use borrow.Author.Tests.{lt-ltb, le-ltb}
 use Rattle.head_count.specs.Counters.{up}

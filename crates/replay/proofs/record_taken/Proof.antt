@@ -1,6 +1,6 @@
 -- A line that is marked as a call has its mark to leave out.
 use borrow.Author.Needs.{needs}
-use Rattle.replay.proofs.Replaying.{marked-held, marked-line}
+use Rattle.replay.proofs.Replaying.{marked-held, marked-line, taken-call, taken-other, taken-run}
 use Rattle.replay.proofs.record_taken.Statement.{statement}
 use Rattle.replay.proofs.record_taken.Tie as tie
 
@@ -14,11 +14,11 @@ record-taken-spec = tie.close (tie.spec
     (λ c κs. tt)
     (search needs)
     (search needs)
-    (λ c. tt)
+    (λ c. taken-call _ _ _ _ _ _ (c .before .before .before .before .before .before .before .mark .ensures) (c .before .before .before .before .before .before .if1 .taken) (marked-line _ _ _ (c .before .before .before .before .before .before .before .mark .ensures) (c .before .before .before .before .before .before .if1 .taken)) _ (c .before .before .call-compared .ensures))
     (λ c κs. tt)
     (λ c κs. tt)
-    (λ c. tt)
+    (λ c. taken-run _ _ _ _ _ _ (c .before .before .before .before .mark .ensures) (c .before .before .if2 .taken) _ (c .before .number .ensures) _ (c .run-begun .ensures))
     (λ c κs. tt)
     (λ c κs. tt)
     (search needs)
-    (λ c. tt))
+    (λ c. taken-other _ _ _ _ _ _ (c .before .before .before .before .before .before .before .mark .ensures) (c .before .before .before .before .before .before .if1 .left) (c .before .before .before .before .before .if2 .left) _ _ _ (c .before .before .before .answer-taken .ensures) (c .after-answer .ensures)))

@@ -1,3 +1,4 @@
+-- A run begins with such a driver.
 use Rattle.replay.specs.Recordings.{runBegun}
 use Rattle.replay.proofs.run_begun.Statement.{statement}
 use Rattle.replay.proofs.run_begun.Tie as tie

@@ -1,3 +1,4 @@
+-- A new driver but for its counters.
 use Rattle.replay.specs.Recordings.{started}
 use Rattle.replay.proofs.started.Statement.{statement}
 use Rattle.replay.proofs.started.Tie as tie
