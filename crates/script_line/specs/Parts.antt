@@ -2,10 +2,8 @@
 use Prim.Native.Nat.{ℕ}
 use mathlib.Core.List.{List, _++_}
 use mathlib.Core.Path.{_≡_}
-use lib.Dec.{ltb}
 use lib.ListN.{length, drop}
 use Rattle.driver.specs.Turns.{lineText}
-use Rattle.hash.specs.Logic.{if}
 use Rattle.driver.specs.declared.LineAnswer.{LineAnswer}
 use Rattle.head_driver.specs.declared.head_lifecycle.Driver.{Driver}
 use Rattle.script_value.specs.declared.buffer.Written.{Written}
@@ -22,8 +20,12 @@ unfoldable pub bytesWritten : Written → ℕ
 bytesWritten Written.TooShort = 0
 bytesWritten (Written.Bytes n) = n
 
-unfoldable pub longer : ℕ → ℕ → ℕ
-longer a b = if (ltb a b) b a
+-- what is written of an answer: its line, or the sheet that stands in the buffer already
+unfoldable pub answerLength : LineAnswer → ℕ
+answerLength (LineAnswer.Said a) = length (lineText (LineAnswer.Said a))
+answerLength LineAnswer.NoCall = length (lineText LineAnswer.NoCall)
+answerLength LineAnswer.SheetTooShort = length (lineText LineAnswer.SheetTooShort)
+answerLength (LineAnswer.Sheet n) = n
 
 -- a text at the front of a buffer, with every byte after it kept
 unfoldable pub atFront : List ℕ → List ℕ → List ℕ
@@ -32,7 +34,7 @@ atFront text buffer = text ++ drop (length text) buffer
 -- what is promised of an answer that is put: the buffer as it was and as it is, and how many of its bytes are the answer
 pub record PutsAnswer (answer : LineAnswer) (old new : List ℕ) (r : ℕ) : Type 0 where
   pub bytes : new ≡ atFront (lineText answer) old
-  pub count : r ≡ longer (length (lineText answer)) (sheetLength answer)
+  pub count : r ≡ answerLength answer
 
 -- what is promised of a line that is answered into a buffer
 pub record Prints (text : List ℕ) (left : Driver) (old new : List ℕ) (r : Printed) : Type 0 where

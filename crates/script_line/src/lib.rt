@@ -4,7 +4,7 @@ ghost use mathlib.Core.Path.{_≡_};
 ghost use lib.ListN.{length};
 ghost use Rattle.script_call.specs.Calls.{call};
 ghost use Rattle.script_line.specs.Prints.{leaves, prints};
-ghost use Rattle.script_line.specs.Parts.{Prints, PutsAnswer, bytesWritten, longer, sheetLength};
+ghost use Rattle.script_line.specs.Parts.{Prints, PutsAnswer, bytesWritten, sheetLength};
 use driver::LineAnswer;
 use driver::put_line;
 use driver::take_line;
@@ -37,19 +37,17 @@ pub(crate) fn bytes_written(written: Written) -> usize
     }
 }
 
-pub(crate) fn longer(a: usize, b: usize) -> usize
-    ensures { λ r. ⌜ r ≡ longer a b ⌝ }
-{
-    if a < b { b } else { a }
-}
-
-// A sheet stands in the buffer already and has no answer line, so one of the two lengths is 0.
+// A sheet stands in the buffer already.
 pub(crate) fn put_answer(out: &mut [u8], answer: LineAnswer) -> usize
     requires { ⌜ 512 ≤ length (now out) ⌝ }
     ensures { λ r. ⌜ PutsAnswer answer (now (out .entry)) (now (out .exit)) r ⌝ }
 {
-    let line = bytes_written(put_line(out, answer));
-    longer(line, sheet_length(answer))
+    match answer {
+        LineAnswer::Said(said) => bytes_written(put_line(out, LineAnswer::Said(said))),
+        LineAnswer::NoCall => bytes_written(put_line(out, LineAnswer::NoCall)),
+        LineAnswer::SheetTooShort => bytes_written(put_line(out, LineAnswer::SheetTooShort)),
+        LineAnswer::Sheet(n) => n,
+    }
 }
 
 // Answers a line at the front of a buffer, which serves as the sheet's buffer too.
