@@ -2,7 +2,7 @@
 use Prim.Native.Nat.{ℕ, zero, suc, _+_, _-_, _^_, _≤_, _<_}
 use native.Mathlib.Nat.{not-suc-le-zero}
 use native.Mathlib.Omega.{arith}
-use mathlib.Core.Bool.{true, false, false≢true}
+use mathlib.Core.Bool.{Bool, true, false, false≢true, true≢false}
 use mathlib.Core.List.{List}
 use mathlib.Core.Path.{_≡_, refl, ap, sym, _∙_}
 use lib.ListN.{length, take, drop, length-drop}
@@ -13,7 +13,7 @@ use Rattle.script.proofs.Cuttings.{taken-append}
 use Rattle.script.specs.Feeds.{Reading, TakesSome, allTaken, reading}
 use Rattle.script.specs.declared.Fed.{Fed}
 use Rattle.head_driver.specs.declared.head_lifecycle.Driver.{Driver}
-use Rattle.headscript.specs.Reads.{AnswersAll, AnswersSome}
+use Rattle.headscript.specs.Reads.{AnswersAll, AnswersSome, MovesOn}
 
 positive : (n : ℕ) → (n ≡ 0 → ⊥) → 0 < n
 positive zero ne = absurd (ne refl)
@@ -24,6 +24,16 @@ written s t input old new r takes = record { within = takes .within; stands = λ
 
 pub not-written : (s t : Reading) (input : List ℕ) → AnswersSome s t input 0
 not-written s t input = record { within = omega arith; stands = λ h. absurd (not-suc-le-zero h) }
+
+-- ---- one read
+
+pub moved : (s t : Reading) (input : List ℕ) (more : Bool) → AnswersAll s t input more → MovesOn s t more
+moved s t input more all e = (input, all e)
+
+pub ended : (s t : Reading) (more : Bool) → more ≡ false → MovesOn s t more
+ended s t more e h = absurd (true≢false (sym h ∙ e))
+
+-- ---- the loop
 
 module _ (d : Driver) (pending₀ : List ℕ) (held : ℕ) (input : List ℕ) where
   -- what holds after each part

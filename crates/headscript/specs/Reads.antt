@@ -14,3 +14,7 @@ pub record AnswersSome (s t : Reading) (input : List ℕ) (taken : ℕ) : Type 0
 -- unless a write failed, all of it was
 abbrev pub AnswersAll : Reading → Reading → List ℕ → Bool → Type 0
 AnswersAll s t input more = more ≡ true → t ≡ allTaken s input
+
+-- while there may be more, the reading stands where some bytes, those that were read, have brought it
+abbrev pub MovesOn : Reading → Reading → Bool → Type 0
+MovesOn s t more = more ≡ true → (bytes : List ℕ) × (t ≡ allTaken s bytes)

@@ -1,7 +1,9 @@
 // headscript: answers the lines of its standard input on its standard output, document 01's program. It only reads and writes; every answer is the
 // library's. Whatever a read brought is answered before the next read, so that a person who types sees each answer at once.
+ghost use mathlib.Core.Bool.{false};
+ghost use mathlib.Core.Path.{_≡_};
 ghost use Rattle.script.specs.Feeds.{reading};
-ghost use Rattle.headscript.specs.Reads.{AnswersAll, AnswersSome};
+ghost use Rattle.headscript.specs.Reads.{AnswersAll, AnswersSome, MovesOn};
 use head_driver::head_lifecycle::Driver;
 use head_reads::head_lifecycle::new;
 use libc::STDIN_FILENO;
@@ -65,7 +67,9 @@ fn answer_all(d: Driver, pending: &mut [u8], held: usize, input: &[u8]) -> Stand
 }
 
 // The end of the input: a last line without its line feed.
-fn end(d: Driver, pending: &mut [u8], held: usize) -> Standing {
+fn end(d: Driver, pending: &mut [u8], held: usize) -> Standing
+    ensures { λ r. ⌜ r .more ≡ false ⌝ }
+{
     let mut out = io::large_buffer();
     let printed = finish(d, pending, held, &mut out);
     let driver = printed.driver;
@@ -79,7 +83,9 @@ fn end(d: Driver, pending: &mut [u8], held: usize) -> Standing {
 }
 
 // Reads once.
-fn read_some(d: Driver, pending: &mut [u8], held: usize) -> Standing {
+fn read_some(d: Driver, pending: &mut [u8], held: usize) -> Standing
+    ensures { λ r. ⌜ MovesOn (reading d (now (pending .entry)) held) (reading (r .driver) (now (pending .exit)) (r .held)) (r .more) ⌝ }
+{
     let mut input = io::large_buffer();
     let got = libc::read(STDIN_FILENO, &mut input);
     let n = io::count(got, &input);

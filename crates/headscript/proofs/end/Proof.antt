@@ -1,4 +1,5 @@
 -- The last answer is written.
+use mathlib.Core.Path.{refl}
 use borrow.Author.Needs.{needs}
 use Rattle.script_line.proofs.Fits.{printed-count, printed-fits}
 use Rattle.headscript.proofs.end.Statement.{statement}
@@ -13,4 +14,4 @@ end-spec = tie.close (tie.spec
     (λ c. search printed-count)
     (λ c κs. tt)
     (search needs)
-    (λ c. tt))
+    (λ c. refl))
