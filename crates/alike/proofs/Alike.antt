@@ -7,28 +7,37 @@ use lib.Dec.{ltb}
 use Rattle.hash.specs.Logic.{if}
 use Rattle.head_anchor.specs.Anchors.{holds, sameAnchor}
 use Rattle.head_anchor.specs.Lists.{asPrepared}
-use Rattle.head_apply.specs.Apply.{apply}
-use Rattle.head_apply.specs.Parts.{applyAs, settleAs}
-use Rattle.head_count.specs.Attempts.{firstEnd, publish, settled}
-use Rattle.head_current.specs.Heads.{anchorOf, delivery, lastReport, preparingAt, published, ticketOf, unsettled}
-use Rattle.head_moves.specs.Moves.{abandonment, claimedHead, isAbandoned, ownedBy, releasedHead, settledHead, settlingEpoch, wakeCurrent}
-use Rattle.head_calls.specs.Calls.{claim, deliver, release, snapshot}
-use Rattle.head_driver.specs.Parts.{endingWith, replyOf, viewed, withLife}
-use Rattle.head_calls.specs.Parts.{claimAs, deliverAs}
-use Rattle.head_gate.specs.Gates.{planAt, planHeld}
-use Rattle.head_life.specs.Apply.{planApply, settle}
-use Rattle.head_gate.specs.Gates.{claimStartAt}
-use Rattle.head_life.specs.Claim.{claimStart, claimed, released}
-use Rattle.head_life.specs.Deliver.{delivered, replaced}
+use Rattle.head_apply.specs.Apply.{apply, applyAs, settleAs}
+use Rattle.head_attempt.specs.Attempts.{firstEnd, publish, settled}
+use Rattle.head_current.specs.Heads.{anchorOf, delivery, ticketOf}
+use Rattle.head_reads.specs.Reports.{lastReport}
+use Rattle.head_waits.specs.Parts.{preparingAt, join, put, resumeAs, viewedBy, waitAs, waiterAt}
+use Rattle.head_completion.specs.Ends.{published, endAt}
+use Rattle.head_deliver.specs.Delivered.{unsettled, delivered, replaced}
+use Rattle.head_settle.specs.Settles.{abandonment, isAbandoned, settledHead, settlingEpoch, settle}
+use Rattle.head_claim.specs.Claimed.{claimedHead, claimed}
+use Rattle.head_release.specs.Owners.{ownedBy}
+use Rattle.head_release.specs.Released.{releasedHead, released}
+use Rattle.head_driver.specs.Parts.{wakeCurrent, endingWith, replyOf, withLife}
+use Rattle.head_claim.specs.Claim.{claim}
+use Rattle.head_deliver.specs.Deliver.{deliver}
+use Rattle.head_release.specs.Release.{release}
+use Rattle.head_snapshot.specs.Snapshot.{snapshot}
+use Rattle.head_snapshot.specs.Parts.{viewed}
+use Rattle.head_claim.specs.Parts.{claimAs}
+use Rattle.head_deliver.specs.Parts.{deliverAs}
+use Rattle.head_plan.specs.Plans.{planAt, planHeld, planApply}
+use Rattle.head_claim.specs.Starts.{claimStartAt, claimStart}
 use Rattle.head_ready.specs.Generations.{slotAnchor}
-use Rattle.head_life.specs.State.{counted, endAt, viewCounted}
-use Rattle.head_reads.specs.Calls.{completion, heads, link, report, stats}
+use Rattle.head_life.specs.State.{counted, viewCounted}
+use Rattle.head_completion.specs.Completion.{completion}
+use Rattle.head_reads.specs.Calls.{heads, report, stats}
+use Rattle.head_link.specs.Link.{link}
 use Rattle.head_step.proofs.Asked.{asked}
 use Rattle.head_step.specs.Dispatch.{dispatch}
 use Rattle.head_step.specs.Steps.{step}
-use Rattle.head_view.specs.Snapshot.{currentView, generationView, provisionalView, spareView, view}
+use Rattle.head_snapshot.specs.Views.{currentView, generationView, provisionalView, spareView, view}
 use Rattle.head_waits.specs.Calls.{resume, wait}
-use Rattle.head_waits.specs.Parts.{join, put, resumeAs, viewedBy, waitAs, waiterAt}
 use Rattle.hash.specs.declared.Hash.{Hash}
 use Rattle.head_anchor.specs.declared.bal_prefetch.BalSkip.{BalSkip}
 use Rattle.head_anchor.specs.declared.read_hub.CarryOutcome.{CarryOutcome}
@@ -36,28 +45,28 @@ use Rattle.head_anchor.specs.declared.read_hub.PreparedBal.{PreparedBal}
 use Rattle.head_anchor.specs.declared.storage_memo.AnchorSlot.{AnchorSlot}
 use Rattle.head_anchor.specs.declared.storage_memo.ReadAnchor.{ReadAnchor}
 use Rattle.head_count.specs.declared.head_lifecycle.Epoch.{Epoch}
-use Rattle.head_count.specs.declared.head_lifecycle.HeadCompletion.{HeadCompletion}
+use Rattle.head_attempt.specs.declared.head_lifecycle.HeadCompletion.{HeadCompletion}
 use Rattle.head_count.specs.declared.head_lifecycle.HeadStats.{HeadStats}
 use Rattle.head_count.specs.declared.head_lifecycle.Seq.{Seq}
-use Rattle.head_count.specs.declared.head_lifecycle.Waiter.{Waiter}
-use Rattle.head_count.specs.declared.head_lifecycle.WaiterSlot.{WaiterSlot}
+use Rattle.head_attempt.specs.declared.head_lifecycle.Waiter.{Waiter}
+use Rattle.head_attempt.specs.declared.head_lifecycle.WaiterSlot.{WaiterSlot}
 use Rattle.head_current.specs.declared.head_lifecycle.CurrentHead.{CurrentHead}
 use Rattle.head_current.specs.declared.head_lifecycle.DeliverySlot.{DeliverySlot}
 use Rattle.head_current.specs.declared.head_lifecycle.HeadDelivery.{HeadDelivery}
 use Rattle.head_current.specs.declared.head_lifecycle.HeadTicket.{HeadTicket}
 use Rattle.head_current.specs.declared.head_lifecycle.LastReport.{LastReport}
 use Rattle.head_current.specs.declared.head_lifecycle.PrepareClaim.{PrepareClaim}
-use Rattle.head_current.specs.declared.head_lifecycle.Redelivery.{Redelivery}
+use Rattle.head_deliver.specs.declared.head_lifecycle.Redelivery.{Redelivery}
 use Rattle.head_current.specs.declared.head_lifecycle.UnsettledHead.{UnsettledHead}
 use Rattle.head_driver.specs.declared.head_lifecycle.Answer.{Answer}
 use Rattle.head_driver.specs.declared.head_lifecycle.Driver.{Driver}
 use Rattle.head_driver.specs.declared.head_lifecycle.Reply.{Reply}
 use Rattle.head_ready.specs.declared.delta_snapshot.GenerationSlot.{GenerationSlot}
-use Rattle.head_gate.specs.declared.head_lifecycle.ApplyPlan.{ApplyPlan}
-use Rattle.head_gate.specs.declared.head_lifecycle.ClaimStart.{ClaimStart}
+use Rattle.head_plan.specs.declared.head_lifecycle.ApplyPlan.{ApplyPlan}
+use Rattle.head_claim.specs.declared.head_lifecycle.ClaimStart.{ClaimStart}
 use Rattle.head_ready.specs.declared.head_lifecycle.HeadView.{HeadView}
 use Rattle.head_ready.specs.declared.head_lifecycle.Source.{Source}
-use Rattle.head_step.specs.declared.head_lifecycle.Call.{Call}
+use Rattle.head_call.specs.declared.head_lifecycle.Call.{Call}
 use Rattle.alike.proofs.KeptOrder.{held-same, nothing-held}
 use Rattle.alike.proofs.Tests.{by-if, by-test, same-holds, true-false}
 use Rattle.alike.specs.Invariant.{Ordered, WhenSettled}

@@ -8,19 +8,20 @@ use borrow.Author.Tests.{eqb-true, eqb-false}
 use Rattle.hash.specs.Logic.{if}
 use Rattle.head_anchor.specs.Anchors.{holds}
 use Rattle.head_anchor.specs.Lists.{applyPrepared, asPrepared, hasHash, isLinked, isNoHash, isRead, outcome}
-use Rattle.head_apply.specs.Apply.{apply}
-use Rattle.head_apply.specs.Parts.{applyAs, settleAs}
-use Rattle.head_count.specs.Attempts.{minted}
+use Rattle.head_apply.specs.Apply.{apply, applyAs, settleAs}
+use Rattle.head_attempt.specs.Attempts.{minted}
 use Rattle.head_count.specs.Counters.{sameEpoch, sameSeq}
-use Rattle.head_current.specs.Heads.{anchorOf, delivery, redelivery, repeats, sameDelivery}
-use Rattle.head_moves.specs.Moves.{ownedBy, owns, settledHead, settlingEpoch, wakeCurrent}
-use Rattle.head_calls.specs.Calls.{deliver, release}
-use Rattle.head_driver.specs.Parts.{endingWith}
-use Rattle.head_calls.specs.Parts.{deliverAs}
-use Rattle.head_gate.specs.Gates.{planHeld}
-use Rattle.head_life.specs.Apply.{planApply, settle}
-use Rattle.head_life.specs.Claim.{released}
-use Rattle.head_life.specs.Deliver.{delivered, deliveredAt}
+use Rattle.head_current.specs.Heads.{anchorOf, delivery}
+use Rattle.head_deliver.specs.Repeats.{redelivery, repeats, sameDelivery}
+use Rattle.head_release.specs.Owners.{ownedBy, owns}
+use Rattle.head_settle.specs.Settles.{settledHead, settlingEpoch, settle}
+use Rattle.head_driver.specs.Parts.{wakeCurrent, endingWith}
+use Rattle.head_deliver.specs.Deliver.{deliver}
+use Rattle.head_release.specs.Release.{release}
+use Rattle.head_deliver.specs.Parts.{deliverAs}
+use Rattle.head_plan.specs.Plans.{planHeld, planApply}
+use Rattle.head_release.specs.Released.{released}
+use Rattle.head_deliver.specs.Delivered.{delivered, deliveredAt}
 use Rattle.head_ready.specs.Generations.{previousAfter, slotAnchor}
 use Rattle.head_step.specs.Dispatch.{dispatch}
 use Rattle.hash.specs.declared.Hash.{Hash}
@@ -32,17 +33,17 @@ use Rattle.head_anchor.specs.declared.storage_memo.AnchorSlot.{AnchorSlot}
 use Rattle.head_anchor.specs.declared.storage_memo.BlockHash.{BlockHash}
 use Rattle.head_anchor.specs.declared.storage_memo.ReadAnchor.{ReadAnchor}
 use Rattle.head_count.specs.declared.head_lifecycle.Epoch.{Epoch}
-use Rattle.head_count.specs.declared.head_lifecycle.HeadCompletion.{HeadCompletion}
+use Rattle.head_attempt.specs.declared.head_lifecycle.HeadCompletion.{HeadCompletion}
 use Rattle.head_count.specs.declared.head_lifecycle.Seq.{Seq}
 use Rattle.head_current.specs.declared.head_lifecycle.CurrentHead.{CurrentHead}
 use Rattle.head_current.specs.declared.head_lifecycle.DeliverySlot.{DeliverySlot}
 use Rattle.head_current.specs.declared.head_lifecycle.HeadDelivery.{HeadDelivery}
 use Rattle.head_current.specs.declared.head_lifecycle.LastReport.{LastReport}
-use Rattle.head_current.specs.declared.head_lifecycle.Redelivery.{Redelivery}
+use Rattle.head_deliver.specs.declared.head_lifecycle.Redelivery.{Redelivery}
 use Rattle.head_current.specs.declared.head_lifecycle.UnsettledHead.{UnsettledHead}
 use Rattle.head_driver.specs.declared.head_lifecycle.Driver.{Driver}
 use Rattle.head_ready.specs.declared.delta_snapshot.GenerationSlot.{GenerationSlot}
-use Rattle.head_step.specs.declared.head_lifecycle.Call.{Call}
+use Rattle.head_call.specs.declared.head_lifecycle.Call.{Call}
 use Rattle.alike.proofs.KeptOrder.{Settles, head-settles}
 use Rattle.alike.proofs.Poses.{Pose, Unsettled, currentAnchor, held-at, installedAnchor, not-installed, pose}
 use Rattle.alike.proofs.Replies.{ticket-ok}

@@ -5,14 +5,14 @@ use mathlib.Core.List.{List}
 use mathlib.Core.Path.{_≡_, refl, _∙_}
 use lib.Dec.{lit<}
 use Rattle.head_anchor.specs.Anchors.{holds}
-use Rattle.head_count.specs.Attempts.{minted, settled}
+use Rattle.head_attempt.specs.Attempts.{minted, settled}
 use Rattle.head_current.specs.Heads.{anchorOf, delivery}
 use Rattle.head_ready.specs.Generations.{slotAnchor}
 use Rattle.head_anchor.specs.declared.storage_memo.AnchorSlot.{AnchorSlot}
 use Rattle.head_anchor.specs.declared.storage_memo.ReadAnchor.{ReadAnchor}
 use Rattle.head_count.specs.declared.head_lifecycle.Epoch.{Epoch}
-use Rattle.head_count.specs.declared.head_lifecycle.HeadCompletion.{HeadCompletion}
-use Rattle.head_count.specs.declared.head_lifecycle.WaiterSlot.{WaiterSlot}
+use Rattle.head_attempt.specs.declared.head_lifecycle.HeadCompletion.{HeadCompletion}
+use Rattle.head_attempt.specs.declared.head_lifecycle.WaiterSlot.{WaiterSlot}
 use Rattle.head_current.specs.declared.head_lifecycle.CurrentHead.{CurrentHead}
 use Rattle.head_current.specs.declared.head_lifecycle.HeadDelivery.{HeadDelivery}
 use Rattle.head_current.specs.declared.head_lifecycle.UnsettledHead.{UnsettledHead}
@@ -25,32 +25,6 @@ use Rattle.alike.proofs.Tests.{anchor-same, true-false}
 use Rattle.alike.specs.Canon.{canon, masked, shownDelivery, shownHead, shownLife, shownSuperseded, shownWaiters}
 use Rattle.alike.specs.Invariant.{Any, ByHead, OpenOrAbandoned, Ordered, Parks, WhenAbsent}
 use Rattle.alike.specs.Ranges.{DeliveryFits, DriverFits, Fits, HeadFits}
-use Rattle.alike.specs.Statements.{CanonKept, CanonTwice}
-use Rattle.alike.specs.Statements.{CanonKept, CanonTwice}
-use Rattle.alike.specs.Statements.{CanonKept, CanonTwice}
-use Rattle.alike.specs.Statements.{CanonKept, CanonTwice}
-use Rattle.alike.specs.Statements.{CanonKept, CanonTwice}
-use Rattle.alike.specs.Statements.{CanonKept, CanonTwice}
-use Rattle.alike.specs.Statements.{CanonKept, CanonTwice}
-use Rattle.alike.specs.Statements.{CanonKept, CanonTwice}
-use Rattle.alike.specs.Statements.{CanonKept, CanonTwice}
-use Rattle.alike.specs.Statements.{CanonKept, CanonTwice}
-use Rattle.alike.specs.Statements.{CanonKept, CanonTwice}
-use Rattle.alike.specs.Statements.{CanonKept, CanonTwice}
-use Rattle.alike.specs.Statements.{CanonKept, CanonTwice}
-use Rattle.alike.specs.Statements.{CanonKept, CanonTwice}
-use Rattle.alike.specs.Statements.{CanonKept, CanonTwice}
-use Rattle.alike.specs.Statements.{CanonKept, CanonTwice}
-use Rattle.alike.specs.Statements.{CanonKept, CanonTwice}
-use Rattle.alike.specs.Statements.{CanonKept, CanonTwice}
-use Rattle.alike.specs.Statements.{CanonKept, CanonTwice}
-use Rattle.alike.specs.Statements.{CanonKept, CanonTwice}
-use Rattle.alike.specs.Statements.{CanonKept, CanonTwice}
-use Rattle.alike.specs.Statements.{CanonKept, CanonTwice}
-use Rattle.alike.specs.Statements.{CanonKept, CanonTwice}
-use Rattle.alike.specs.Statements.{CanonKept, CanonTwice}
-use Rattle.alike.specs.Statements.{CanonKept, CanonTwice}
-use Rattle.alike.specs.Statements.{CanonKept, CanonTwice}
 use Rattle.alike.specs.Statements.{CanonKept, CanonTwice}
 
 -- The lifecycle's rules read no epoch of an attempt that is not being prepared.

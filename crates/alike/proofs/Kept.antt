@@ -3,52 +3,19 @@ use mathlib.Core.List.{List, [], _∷_}
 use mathlib.Core.Path.{refl, ap}
 use lib.Dec.{lit<}
 use Rattle.head_count.specs.Counters.{noneCounted}
-use Rattle.head_current.specs.Heads.{delivery, lastReport}
+use Rattle.head_current.specs.Heads.{delivery}
+use Rattle.head_reads.specs.Reports.{lastReport}
 use Rattle.head_life.specs.State.{noHead}
-use Rattle.head_reads.specs.Calls.{new}
+use Rattle.head_driver.specs.New.{new}
 use Rattle.head_step.specs.Steps.{step}
 use Rattle.head_driver.specs.declared.head_lifecycle.Driver.{Driver}
-use Rattle.head_step.specs.declared.head_lifecycle.Call.{Call}
+use Rattle.head_call.specs.declared.head_lifecycle.Call.{Call}
 use Rattle.alike.proofs.KeptOrder.{ordered-step}
 use Rattle.alike.proofs.KeptParks.{parks-step}
 use Rattle.alike.proofs.KeptRanges.{fits-step}
 use Rattle.alike.proofs.Waking.{free-fits, free-none}
 use Rattle.alike.specs.Invariant.{Invariant}
 use Rattle.alike.specs.Runs.{AllWritable, after}
-use Rattle.alike.specs.Statements.{HoldsOfNew, Kept, SeqIsDelivered}
-use Rattle.alike.specs.Statements.{HoldsOfNew, Kept, SeqIsDelivered}
-use Rattle.alike.specs.Statements.{HoldsOfNew, Kept, SeqIsDelivered}
-use Rattle.alike.specs.Statements.{HoldsOfNew, Kept, SeqIsDelivered}
-use Rattle.alike.specs.Statements.{HoldsOfNew, Kept, SeqIsDelivered}
-use Rattle.alike.specs.Statements.{HoldsOfNew, Kept, SeqIsDelivered}
-use Rattle.alike.specs.Statements.{HoldsOfNew, Kept, SeqIsDelivered}
-use Rattle.alike.specs.Statements.{HoldsOfNew, Kept, SeqIsDelivered}
-use Rattle.alike.specs.Statements.{HoldsOfNew, Kept, SeqIsDelivered}
-use Rattle.alike.specs.Statements.{HoldsOfNew, Kept, SeqIsDelivered}
-use Rattle.alike.specs.Statements.{HoldsOfNew, Kept, SeqIsDelivered}
-use Rattle.alike.specs.Statements.{HoldsOfNew, Kept, SeqIsDelivered}
-use Rattle.alike.specs.Statements.{HoldsOfNew, Kept, SeqIsDelivered}
-use Rattle.alike.specs.Statements.{HoldsOfNew, Kept, SeqIsDelivered}
-use Rattle.alike.specs.Statements.{HoldsOfNew, Kept, SeqIsDelivered}
-use Rattle.alike.specs.Statements.{HoldsOfNew, Kept, SeqIsDelivered}
-use Rattle.alike.specs.Statements.{HoldsOfNew, Kept, SeqIsDelivered}
-use Rattle.alike.specs.Statements.{HoldsOfNew, Kept, SeqIsDelivered}
-use Rattle.alike.specs.Statements.{HoldsOfNew, Kept, SeqIsDelivered}
-use Rattle.alike.specs.Statements.{HoldsOfNew, Kept, SeqIsDelivered}
-use Rattle.alike.specs.Statements.{HoldsOfNew, Kept, SeqIsDelivered}
-use Rattle.alike.specs.Statements.{HoldsOfNew, Kept, SeqIsDelivered}
-use Rattle.alike.specs.Statements.{HoldsOfNew, Kept, SeqIsDelivered}
-use Rattle.alike.specs.Statements.{HoldsOfNew, Kept, SeqIsDelivered}
-use Rattle.alike.specs.Statements.{HoldsOfNew, Kept, SeqIsDelivered}
-use Rattle.alike.specs.Statements.{HoldsOfNew, Kept, SeqIsDelivered}
-use Rattle.alike.specs.Statements.{HoldsOfNew, Kept, SeqIsDelivered}
-use Rattle.alike.specs.Statements.{HoldsOfNew, Kept, SeqIsDelivered}
-use Rattle.alike.specs.Statements.{HoldsOfNew, Kept, SeqIsDelivered}
-use Rattle.alike.specs.Statements.{HoldsOfNew, Kept, SeqIsDelivered}
-use Rattle.alike.specs.Statements.{HoldsOfNew, Kept, SeqIsDelivered}
-use Rattle.alike.specs.Statements.{HoldsOfNew, Kept, SeqIsDelivered}
-use Rattle.alike.specs.Statements.{HoldsOfNew, Kept, SeqIsDelivered}
-use Rattle.alike.specs.Statements.{HoldsOfNew, Kept, SeqIsDelivered}
 use Rattle.alike.specs.Statements.{HoldsOfNew, Kept, SeqIsDelivered}
 
 pub holds-of-new : HoldsOfNew

@@ -9,14 +9,16 @@ use Rattle.hash.specs.Logic.{both}
 use Rattle.head_anchor.specs.Anchors.{holds}
 use Rattle.head_anchor.specs.Links.{classifyLink, follows}
 use Rattle.head_anchor.specs.Lists.{applyPrepared, isLinked, isRead, outcome}
-use Rattle.head_count.specs.Attempts.{firstEnd, minted, publish, settled}
+use Rattle.head_attempt.specs.Attempts.{firstEnd, minted, publish, settled}
 use Rattle.head_count.specs.Counters.{nextEpoch, nextSeq, raise, seqOf, up}
-use Rattle.head_current.specs.Heads.{delivery, lastReport, unsettled}
-use Rattle.head_moves.specs.Moves.{abandonment, claimedHead, releasedHead, settledHead, settledOf, settlingEpoch}
+use Rattle.head_current.specs.Heads.{delivery}
+use Rattle.head_reads.specs.Reports.{lastReport}
+use Rattle.head_deliver.specs.Delivered.{unsettled, countDelivery, countReplaced, delivered, deliveredAt, newHead}
+use Rattle.head_settle.specs.Settles.{abandonment, settledHead, settlingEpoch, settle}
+use Rattle.head_claim.specs.Claimed.{claimedHead, claimed}
+use Rattle.head_release.specs.Released.{releasedHead, released}
+use Rattle.head_current.specs.Parts.{settledOf}
 use Rattle.head_driver.specs.Parts.{withLife}
-use Rattle.head_life.specs.Apply.{settle}
-use Rattle.head_life.specs.Claim.{claimed, released}
-use Rattle.head_life.specs.Deliver.{countDelivery, countReplaced, delivered, deliveredAt, newHead}
 use Rattle.head_ready.specs.Generations.{previousAfter, settledReadiness, slotAnchor}
 use Rattle.head_life.specs.State.{counted, withStats}
 use Rattle.head_step.specs.Steps.{step}
@@ -27,9 +29,9 @@ use Rattle.head_anchor.specs.declared.read_hub.CarryOutcome.{CarryOutcome}
 use Rattle.head_anchor.specs.declared.read_hub.Link.{Link}
 use Rattle.head_anchor.specs.declared.storage_memo.AnchorSlot.{AnchorSlot}
 use Rattle.head_anchor.specs.declared.storage_memo.ReadAnchor.{ReadAnchor}
-use Rattle.head_count.specs.declared.head_lifecycle.ClaimAttempt.{ClaimAttempt}
+use Rattle.head_attempt.specs.declared.head_lifecycle.ClaimAttempt.{ClaimAttempt}
 use Rattle.head_count.specs.declared.head_lifecycle.Epoch.{Epoch}
-use Rattle.head_count.specs.declared.head_lifecycle.HeadCompletion.{HeadCompletion}
+use Rattle.head_attempt.specs.declared.head_lifecycle.HeadCompletion.{HeadCompletion}
 use Rattle.head_count.specs.declared.head_lifecycle.HeadStats.{HeadStats}
 use Rattle.head_current.specs.declared.head_lifecycle.CurrentHead.{CurrentHead}
 use Rattle.head_current.specs.declared.head_lifecycle.DeliverySlot.{DeliverySlot}
@@ -40,7 +42,7 @@ use Rattle.head_driver.specs.declared.head_lifecycle.Driver.{Driver}
 use Rattle.head_ready.specs.declared.delta_snapshot.Generation.{Generation}
 use Rattle.head_ready.specs.declared.delta_snapshot.GenerationSlot.{GenerationSlot}
 use Rattle.head_life.specs.declared.head_lifecycle.HeadLifecycle.{HeadLifecycle}
-use Rattle.head_step.specs.declared.head_lifecycle.Call.{Call}
+use Rattle.head_call.specs.declared.head_lifecycle.Call.{Call}
 use Rattle.alike.proofs.Moves.{Move, step-move}
 use Rattle.alike.proofs.Tests.{by-if, holds-same, same-holds, true-false, up-positive}
 use Rattle.alike.specs.Invariant.{Follows, FromApply, OpenOrAbandoned, Ordered, WhenGeneration}

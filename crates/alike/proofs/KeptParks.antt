@@ -4,24 +4,23 @@ use mathlib.Core.Bool.{true}
 use mathlib.Core.List.{List}
 use mathlib.Core.Path.{_≡_, refl}
 use lib.ListN.{set}
-use Rattle.head_count.specs.Waiters.{slotOf}
-use Rattle.head_current.specs.Heads.{preparingAt}
-use Rattle.head_moves.specs.Moves.{claimedHead}
+use Rattle.head_attempt.specs.Waiters.{slotOf}
+use Rattle.head_waits.specs.Parts.{preparingAt, put}
+use Rattle.head_claim.specs.Claimed.{claimedHead, claimed}
 use Rattle.head_driver.specs.Parts.{endingWith, withLife}
-use Rattle.head_life.specs.Apply.{settle}
-use Rattle.head_life.specs.Claim.{claimed, released}
-use Rattle.head_life.specs.Deliver.{delivered}
+use Rattle.head_settle.specs.Settles.{settle}
+use Rattle.head_release.specs.Released.{released}
+use Rattle.head_deliver.specs.Delivered.{delivered}
 use Rattle.head_life.specs.State.{counted}
 use Rattle.head_step.specs.Steps.{step}
-use Rattle.head_waits.specs.Parts.{put}
 use Rattle.head_anchor.specs.declared.storage_memo.ReadAnchor.{ReadAnchor}
-use Rattle.head_count.specs.declared.head_lifecycle.HeadCompletion.{HeadCompletion}
-use Rattle.head_count.specs.declared.head_lifecycle.Waiter.{Waiter}
-use Rattle.head_count.specs.declared.head_lifecycle.WaiterSlot.{WaiterSlot}
+use Rattle.head_attempt.specs.declared.head_lifecycle.HeadCompletion.{HeadCompletion}
+use Rattle.head_attempt.specs.declared.head_lifecycle.Waiter.{Waiter}
+use Rattle.head_attempt.specs.declared.head_lifecycle.WaiterSlot.{WaiterSlot}
 use Rattle.head_current.specs.declared.head_lifecycle.CurrentHead.{CurrentHead}
 use Rattle.head_driver.specs.declared.head_lifecycle.Driver.{Driver}
 use Rattle.head_life.specs.declared.head_lifecycle.HeadLifecycle.{HeadLifecycle}
-use Rattle.head_step.specs.declared.head_lifecycle.Call.{Call}
+use Rattle.head_call.specs.declared.head_lifecycle.Call.{Call}
 use Rattle.alike.proofs.Moves.{Move, step-move}
 use Rattle.alike.proofs.Tests.{true-false}
 use Rattle.alike.proofs.Waking.{Ends, ending-none, set-none}

@@ -8,15 +8,15 @@ use Rattle.hash.specs.Logic.{both}
 use Rattle.head_anchor.specs.Anchors.{holds}
 use Rattle.head_anchor.specs.Links.{classifyLink}
 use Rattle.head_anchor.specs.Lists.{applyPrepared, isLinked, isRead, outcome}
-use Rattle.head_count.specs.Attempts.{minted, publish, settled}
+use Rattle.head_attempt.specs.Attempts.{minted, publish, settled}
 use Rattle.head_count.specs.Counters.{nextEpoch, nextSeq, raise}
-use Rattle.head_count.specs.Waiters.{slotOf}
-use Rattle.head_current.specs.Heads.{delivery, unsettled}
-use Rattle.head_moves.specs.Moves.{abandonment, claimedHead, releasedHead, settledHead, settlingEpoch}
+use Rattle.head_attempt.specs.Waiters.{slotOf}
+use Rattle.head_current.specs.Heads.{delivery}
+use Rattle.head_deliver.specs.Delivered.{unsettled, countDelivery, countReplaced, delivered, newHead, replaced}
+use Rattle.head_settle.specs.Settles.{abandonment, settledHead, settlingEpoch, settle}
+use Rattle.head_claim.specs.Claimed.{claimedHead, claimed}
+use Rattle.head_release.specs.Released.{releasedHead, released}
 use Rattle.head_driver.specs.Parts.{endingWith, withLife}
-use Rattle.head_life.specs.Apply.{settle}
-use Rattle.head_life.specs.Claim.{claimed, released}
-use Rattle.head_life.specs.Deliver.{countDelivery, countReplaced, delivered, newHead, replaced}
 use Rattle.head_ready.specs.Generations.{previousAfter, settledReadiness, slotAnchor}
 use Rattle.head_life.specs.State.{counted}
 use Rattle.head_step.specs.Steps.{step}
@@ -28,9 +28,9 @@ use Rattle.head_anchor.specs.declared.storage_memo.AnchorSlot.{AnchorSlot}
 use Rattle.head_anchor.specs.declared.storage_memo.ReadAnchor.{ReadAnchor}
 use Rattle.head_count.specs.declared.head_lifecycle.Counter.{Counter}
 use Rattle.head_count.specs.declared.head_lifecycle.Epoch.{Epoch}
-use Rattle.head_count.specs.declared.head_lifecycle.HeadCompletion.{HeadCompletion}
+use Rattle.head_attempt.specs.declared.head_lifecycle.HeadCompletion.{HeadCompletion}
 use Rattle.head_count.specs.declared.head_lifecycle.HeadStats.{HeadStats}
-use Rattle.head_count.specs.declared.head_lifecycle.Waiter.{Waiter}
+use Rattle.head_attempt.specs.declared.head_lifecycle.Waiter.{Waiter}
 use Rattle.head_current.specs.declared.head_lifecycle.CurrentHead.{CurrentHead}
 use Rattle.head_current.specs.declared.head_lifecycle.DeliverySlot.{DeliverySlot}
 use Rattle.head_current.specs.declared.head_lifecycle.HeadDelivery.{HeadDelivery}
@@ -38,7 +38,7 @@ use Rattle.head_current.specs.declared.head_lifecycle.LastReport.{LastReport}
 use Rattle.head_driver.specs.declared.head_lifecycle.Driver.{Driver}
 use Rattle.head_ready.specs.declared.delta_snapshot.GenerationSlot.{GenerationSlot}
 use Rattle.head_life.specs.declared.head_lifecycle.HeadLifecycle.{HeadLifecycle}
-use Rattle.head_step.specs.declared.head_lifecycle.Call.{Call}
+use Rattle.head_call.specs.declared.head_lifecycle.Call.{Call}
 use Rattle.alike.proofs.KeptOrder.{held-same, nothing-held}
 use Rattle.alike.proofs.Moves.{Move, step-move}
 use Rattle.alike.proofs.Tests.{by-if, up-fits}

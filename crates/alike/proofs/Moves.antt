@@ -5,47 +5,54 @@ use mathlib.Core.Path.{_≡_, refl}
 use lib.Dec.{ltb}
 use Rattle.head_anchor.specs.Anchors.{holds, sameAnchor}
 use Rattle.head_anchor.specs.Lists.{applyPrepared, asPrepared}
-use Rattle.head_apply.specs.Apply.{apply}
-use Rattle.head_apply.specs.Parts.{applyAs, settleAs}
+use Rattle.head_apply.specs.Apply.{apply, applyAs, settleAs}
 use Rattle.head_count.specs.Counters.{nextEpoch, raise, recordView}
-use Rattle.head_current.specs.Heads.{delivery, preparingAt, ticketOf}
-use Rattle.head_moves.specs.Moves.{ownedBy}
-use Rattle.head_calls.specs.Calls.{claim, deliver, release, snapshot}
-use Rattle.head_driver.specs.Parts.{endingWith, viewed, withLife}
-use Rattle.head_calls.specs.Parts.{claimAs, deliverAs}
-use Rattle.head_gate.specs.Gates.{planAt, planHeld}
-use Rattle.head_life.specs.Apply.{planApply, settle}
-use Rattle.head_gate.specs.Gates.{claimGate, claimStartAt}
-use Rattle.head_life.specs.Claim.{claimStart, claimed, released}
-use Rattle.head_life.specs.Deliver.{delivered}
+use Rattle.head_current.specs.Heads.{delivery, ticketOf}
+use Rattle.head_waits.specs.Parts.{preparingAt, join, put, resumeAs, viewedBy, waitAs}
+use Rattle.head_release.specs.Owners.{ownedBy}
+use Rattle.head_claim.specs.Claim.{claim}
+use Rattle.head_deliver.specs.Deliver.{deliver}
+use Rattle.head_release.specs.Release.{release}
+use Rattle.head_snapshot.specs.Snapshot.{snapshot}
+use Rattle.head_driver.specs.Parts.{endingWith, withLife}
+use Rattle.head_snapshot.specs.Parts.{viewed}
+use Rattle.head_claim.specs.Parts.{claimAs}
+use Rattle.head_deliver.specs.Parts.{deliverAs}
+use Rattle.head_plan.specs.Plans.{planAt, planHeld, planApply}
+use Rattle.head_settle.specs.Settles.{settle}
+use Rattle.head_claim.specs.Starts.{claimGate, claimStartAt, claimStart}
+use Rattle.head_claim.specs.Claimed.{claimed}
+use Rattle.head_release.specs.Released.{released}
+use Rattle.head_deliver.specs.Delivered.{delivered}
 use Rattle.head_ready.specs.Generations.{isReady, slotAnchor}
 use Rattle.head_life.specs.State.{counted, viewCounted, withStats}
-use Rattle.head_reads.specs.Calls.{completion, heads, link, report, stats}
+use Rattle.head_completion.specs.Completion.{completion}
+use Rattle.head_reads.specs.Calls.{heads, report, stats}
+use Rattle.head_link.specs.Link.{link}
 use Rattle.head_step.proofs.Asked.{asked}
 use Rattle.head_step.specs.Dispatch.{dispatch}
 use Rattle.head_step.specs.Steps.{step}
 use Rattle.head_waits.specs.Calls.{resume, wait}
-use Rattle.head_waits.specs.Parts.{join, put, resumeAs, viewedBy, waitAs}
 use Rattle.hash.specs.declared.Hash.{Hash}
 use Rattle.head_anchor.specs.declared.read_hub.PreparedBal.{PreparedBal}
 use Rattle.head_anchor.specs.declared.storage_memo.AnchorSlot.{AnchorSlot}
 use Rattle.head_anchor.specs.declared.storage_memo.ReadAnchor.{ReadAnchor}
 use Rattle.head_count.specs.declared.head_lifecycle.Counter.{Counter}
-use Rattle.head_count.specs.declared.head_lifecycle.HeadCompletion.{HeadCompletion}
-use Rattle.head_count.specs.declared.head_lifecycle.Waiter.{Waiter}
+use Rattle.head_attempt.specs.declared.head_lifecycle.HeadCompletion.{HeadCompletion}
+use Rattle.head_attempt.specs.declared.head_lifecycle.Waiter.{Waiter}
 use Rattle.head_current.specs.declared.head_lifecycle.CurrentHead.{CurrentHead}
 use Rattle.head_current.specs.declared.head_lifecycle.DeliverySlot.{DeliverySlot}
 use Rattle.head_current.specs.declared.head_lifecycle.HeadDelivery.{HeadDelivery}
 use Rattle.head_current.specs.declared.head_lifecycle.HeadTicket.{HeadTicket}
 use Rattle.head_current.specs.declared.head_lifecycle.PrepareClaim.{PrepareClaim}
-use Rattle.head_current.specs.declared.head_lifecycle.Redelivery.{Redelivery}
+use Rattle.head_deliver.specs.declared.head_lifecycle.Redelivery.{Redelivery}
 use Rattle.head_current.specs.declared.head_lifecycle.UnsettledHead.{UnsettledHead}
 use Rattle.head_driver.specs.declared.head_lifecycle.Driver.{Driver}
 use Rattle.head_driver.specs.declared.head_lifecycle.Reply.{Reply}
-use Rattle.head_gate.specs.declared.head_lifecycle.ApplyPlan.{ApplyPlan}
-use Rattle.head_gate.specs.declared.head_lifecycle.ClaimStart.{ClaimStart}
+use Rattle.head_plan.specs.declared.head_lifecycle.ApplyPlan.{ApplyPlan}
+use Rattle.head_claim.specs.declared.head_lifecycle.ClaimStart.{ClaimStart}
 use Rattle.head_ready.specs.declared.head_lifecycle.HeadView.{HeadView}
-use Rattle.head_step.specs.declared.head_lifecycle.Call.{Call}
+use Rattle.head_call.specs.declared.head_lifecycle.Call.{Call}
 use Rattle.alike.proofs.Tests.{by-if, true-false}
 
 pub data Move (d : Driver) : Call → Driver → Type 0 where

@@ -4,17 +4,19 @@ use mathlib.Core.Bool.{false}
 use mathlib.Core.Path.{_≡_, refl, sym, ap, _∙_, subst}
 use native.Mathlib.Omega.{arith}
 use Rattle.head_anchor.specs.Anchors.{holds}
-use Rattle.head_count.specs.Attempts.{minted}
+use Rattle.head_attempt.specs.Attempts.{minted}
 use Rattle.head_count.specs.Counters.{epochOf, nextEpoch, seqOf}
-use Rattle.head_current.specs.Heads.{anchorOf, delivery, lastReport, published}
-use Rattle.head_life.specs.Deliver.{deliveryOf}
+use Rattle.head_current.specs.Heads.{anchorOf, delivery}
+use Rattle.head_reads.specs.Reports.{lastReport}
+use Rattle.head_completion.specs.Ends.{published}
+use Rattle.head_deliver.specs.Delivered.{deliveryOf}
 use Rattle.head_ready.specs.Generations.{slotAnchor}
-use Rattle.head_gate.specs.Refusals.{refused-13, refused-14}
+use Rattle.head_ready.specs.Refusals.{refused-13, refused-14}
 use Rattle.hash.specs.declared.Hash.{Hash}
 use Rattle.head_anchor.specs.declared.storage_memo.AnchorSlot.{AnchorSlot}
 use Rattle.head_anchor.specs.declared.storage_memo.BlockHash.{BlockHash}
 use Rattle.head_anchor.specs.declared.storage_memo.ReadAnchor.{ReadAnchor}
-use Rattle.head_count.specs.declared.head_lifecycle.ClaimAttempt.{ClaimAttempt}
+use Rattle.head_attempt.specs.declared.head_lifecycle.ClaimAttempt.{ClaimAttempt}
 use Rattle.head_count.specs.declared.head_lifecycle.Epoch.{Epoch}
 use Rattle.head_current.specs.declared.head_lifecycle.CurrentHead.{CurrentHead}
 use Rattle.head_current.specs.declared.head_lifecycle.DeliverySlot.{DeliverySlot}

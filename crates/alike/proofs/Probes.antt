@@ -4,13 +4,15 @@ use mathlib.Core.Path.{_≡_, refl, sym, ap, _∙_}
 use lib.Dec.{lit<}
 use Rattle.hash.specs.Hashes.{sameHash}
 use Rattle.hash.specs.Logic.{if}
-use Rattle.head_count.specs.Attempts.{minted}
+use Rattle.head_attempt.specs.Attempts.{minted}
 use Rattle.head_count.specs.Counters.{nextSeq, seqOf, up}
-use Rattle.head_current.specs.Heads.{delivery, lastReport, published}
+use Rattle.head_current.specs.Heads.{delivery}
+use Rattle.head_reads.specs.Reports.{lastReport}
+use Rattle.head_completion.specs.Ends.{published}
 use Rattle.head_ready.specs.Generations.{slotAnchor}
 use Rattle.head_reads.specs.Calls.{heads, report, stats}
 use Rattle.head_step.specs.Dispatch.{dispatch}
-use Rattle.head_view.specs.Snapshot.{viewOf}
+use Rattle.head_snapshot.specs.Views.{viewOf}
 use Rattle.hash.specs.declared.Hash.{Hash}
 use Rattle.head_anchor.specs.declared.storage_memo.AnchorSlot.{AnchorSlot}
 use Rattle.head_anchor.specs.declared.storage_memo.ReadAnchor.{ReadAnchor}
@@ -24,7 +26,7 @@ use Rattle.head_ready.specs.declared.delta_snapshot.GenerationSlot.{GenerationS
 use Rattle.head_ready.specs.declared.head_lifecycle.HeadCold.{HeadCold}
 use Rattle.head_ready.specs.declared.head_lifecycle.HeadReadiness.{HeadReadiness}
 use Rattle.head_ready.specs.declared.head_lifecycle.Source.{Source}
-use Rattle.head_step.specs.declared.head_lifecycle.Call.{Call}
+use Rattle.head_call.specs.declared.head_lifecycle.Call.{Call}
 use Rattle.alike.proofs.Alike.{SameHead}
 use Rattle.alike.proofs.KeptRanges.{held-fits}
 use Rattle.alike.proofs.Poses.{Unsettled, absent-of, by-pose, claimAnswer, currentAnchor, head-fits, held-at, heldOf, installedAnchor, no-provisional, parentOf, pose, preparing-minted, previousAnchor, provisionalOf, published-end, same-parts}

@@ -6,16 +6,19 @@ use Rattle.hash.specs.Hashes.{sameHash}
 use Rattle.hash.specs.Logic.{if}
 use Rattle.head_anchor.specs.Anchors.{holds}
 use Rattle.head_count.specs.Counters.{nextSeq, sameSeq}
-use Rattle.head_current.specs.Heads.{anchorOf, delivery, published, redelivery, repeats, sameDelivery, ticketOf}
-use Rattle.head_calls.specs.Calls.{claim, deliver, snapshot}
-use Rattle.head_driver.specs.Parts.{viewed}
-use Rattle.head_calls.specs.Parts.{claimAs, deliverAs}
-use Rattle.head_gate.specs.Gates.{claimGate}
-use Rattle.head_life.specs.Claim.{claimStart}
+use Rattle.head_current.specs.Heads.{anchorOf, delivery, ticketOf}
+use Rattle.head_completion.specs.Ends.{published, endAt}
+use Rattle.head_deliver.specs.Repeats.{redelivery, repeats, sameDelivery}
+use Rattle.head_claim.specs.Claim.{claim}
+use Rattle.head_deliver.specs.Deliver.{deliver}
+use Rattle.head_snapshot.specs.Snapshot.{snapshot}
+use Rattle.head_snapshot.specs.Parts.{viewed}
+use Rattle.head_claim.specs.Parts.{claimAs}
+use Rattle.head_deliver.specs.Parts.{deliverAs}
+use Rattle.head_claim.specs.Starts.{claimGate, claimStart}
 use Rattle.head_ready.specs.Generations.{slotAnchor}
-use Rattle.head_life.specs.State.{endAt}
-use Rattle.head_reads.specs.Calls.{completion}
-use Rattle.head_view.specs.Snapshot.{currentView, generationView, provisionalView, spareView, view, viewOf}
+use Rattle.head_completion.specs.Completion.{completion}
+use Rattle.head_snapshot.specs.Views.{currentView, generationView, provisionalView, spareView, view, viewOf}
 use Rattle.hash.specs.declared.Hash.{Hash}
 use Rattle.head_anchor.specs.declared.storage_memo.AnchorSlot.{AnchorSlot}
 use Rattle.head_anchor.specs.declared.storage_memo.ReadAnchor.{ReadAnchor}

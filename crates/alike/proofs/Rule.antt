@@ -1,6 +1,6 @@
 -- Drivers that answer alike are alike, each part told by a probe, so they show the same. And the rule.
 use mathlib.Core.Path.{subst}
-use Rattle.head_reads.specs.Calls.{new}
+use Rattle.head_driver.specs.New.{new}
 use Rattle.head_driver.specs.declared.head_lifecycle.Driver.{Driver}
 use Rattle.alike.proofs.Alike.{Alike, driverOf}
 use Rattle.alike.proofs.DeepProbes.{probe-epoch, probe-previous, probe-superseded}
@@ -11,12 +11,6 @@ use Rattle.alike.proofs.Twins.{Twin}
 use Rattle.alike.proofs.WaiterProbes.{probe-waiters}
 use Rattle.alike.specs.Runs.{after}
 use Rattle.alike.specs.Statements.{Below, Rule, ShowsNoMore}
-use Rattle.alike.specs.Statements.{Below, Rule, ShowsNoMore}
-use Rattle.alike.specs.Statements.{Below, Rule, ShowsNoMore}
-use Rattle.alike.specs.Statements.{Below, Rule, ShowsNoMore}
-use Rattle.alike.specs.Statements.{Below, Rule, ShowsNoMore}
-use Rattle.alike.specs.Statements.{Below, Rule, ShowsNoMore}
-use Rattle.alike.specs.Statements.{ShowsNoMore, Below, Rule}
 
 twin-alike : {d₁ d₂ : Driver} → Twin d₁ d₂ → Below d₁ → Below d₂ → Alike d₁ d₂
 twin-alike {d₁} {d₂} w b₁ b₂ =

@@ -5,16 +5,16 @@ use mathlib.Core.List.{List, [], _∷_}
 use mathlib.Core.Path.{_≡_, refl, sym, ap, _∙_, subst, ap₂}
 use Rattle.hash.specs.Logic.{both, if}
 use Rattle.head_anchor.specs.Anchors.{holds}
-use Rattle.head_count.specs.Attempts.{settled}
+use Rattle.head_attempt.specs.Attempts.{settled}
 use Rattle.head_count.specs.Counters.{seqOf}
 use Rattle.head_current.specs.Heads.{anchorOf, delivery}
 use Rattle.head_ready.specs.Generations.{slotAnchor}
 use Rattle.head_anchor.specs.declared.storage_memo.AnchorSlot.{AnchorSlot}
 use Rattle.head_anchor.specs.declared.storage_memo.ReadAnchor.{ReadAnchor}
 use Rattle.head_count.specs.declared.head_lifecycle.Epoch.{Epoch}
-use Rattle.head_count.specs.declared.head_lifecycle.HeadCompletion.{HeadCompletion}
-use Rattle.head_count.specs.declared.head_lifecycle.Waiter.{Waiter}
-use Rattle.head_count.specs.declared.head_lifecycle.WaiterSlot.{WaiterSlot}
+use Rattle.head_attempt.specs.declared.head_lifecycle.HeadCompletion.{HeadCompletion}
+use Rattle.head_attempt.specs.declared.head_lifecycle.Waiter.{Waiter}
+use Rattle.head_attempt.specs.declared.head_lifecycle.WaiterSlot.{WaiterSlot}
 use Rattle.head_current.specs.declared.head_lifecycle.CurrentHead.{CurrentHead}
 use Rattle.head_current.specs.declared.head_lifecycle.DeliverySlot.{DeliverySlot}
 use Rattle.head_current.specs.declared.head_lifecycle.HeadDelivery.{HeadDelivery}
@@ -22,7 +22,7 @@ use Rattle.head_current.specs.declared.head_lifecycle.LastReport.{LastReport}
 use Rattle.head_driver.specs.declared.head_lifecycle.Driver.{Driver}
 use Rattle.head_ready.specs.declared.delta_snapshot.GenerationSlot.{GenerationSlot}
 use Rattle.head_life.specs.declared.head_lifecycle.HeadLifecycle.{HeadLifecycle}
-use Rattle.head_step.specs.declared.head_lifecycle.Call.{Call}
+use Rattle.head_call.specs.declared.head_lifecycle.Call.{Call}
 use Rattle.alike.proofs.Alike.{Alike, SameHead, SameSuperseded, Telling, both-step, driverOf, same-of}
 use Rattle.alike.proofs.KeptOrder.{ordered-step}
 use Rattle.alike.proofs.Masks.{mask-holds, mask-same}
@@ -30,14 +30,6 @@ use Rattle.alike.proofs.Tests.{true-false}
 use Rattle.alike.specs.Canon.{canon, isSettled, masked, shownHead, shownLife, shownSuperseded, shownWaiter, shownWaiters}
 use Rattle.alike.specs.Invariant.{Ordered, WhenSettled}
 use Rattle.alike.specs.Runs.{answers}
-use Rattle.alike.specs.Statements.{ShowsEnough}
-use Rattle.alike.specs.Statements.{ShowsEnough}
-use Rattle.alike.specs.Statements.{ShowsEnough}
-use Rattle.alike.specs.Statements.{ShowsEnough}
-use Rattle.alike.specs.Statements.{ShowsEnough}
-use Rattle.alike.specs.Statements.{ShowsEnough}
-use Rattle.alike.specs.Statements.{ShowsEnough}
-use Rattle.alike.specs.Statements.{ShowsEnough}
 use Rattle.alike.specs.Statements.{ShowsEnough}
 
 -- Masked is just where no answer tells.

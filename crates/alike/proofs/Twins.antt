@@ -6,30 +6,10 @@ use Rattle.head_step.specs.Dispatch.{dispatch}
 use Rattle.head_step.specs.Steps.{step}
 use Rattle.head_driver.specs.declared.head_lifecycle.Answer.{Answer}
 use Rattle.head_driver.specs.declared.head_lifecycle.Driver.{Driver}
-use Rattle.head_step.specs.declared.head_lifecycle.Call.{Call}
+use Rattle.head_call.specs.declared.head_lifecycle.Call.{Call}
 use Rattle.alike.proofs.Kept.{kept}
 use Rattle.alike.specs.Invariant.{Invariant}
 use Rattle.alike.specs.Runs.{Writable, answers}
-use Rattle.alike.specs.Statements.{SameAnswers}
-use Rattle.alike.specs.Statements.{SameAnswers}
-use Rattle.alike.specs.Statements.{SameAnswers}
-use Rattle.alike.specs.Statements.{SameAnswers}
-use Rattle.alike.specs.Statements.{SameAnswers}
-use Rattle.alike.specs.Statements.{SameAnswers}
-use Rattle.alike.specs.Statements.{SameAnswers}
-use Rattle.alike.specs.Statements.{SameAnswers}
-use Rattle.alike.specs.Statements.{SameAnswers}
-use Rattle.alike.specs.Statements.{SameAnswers}
-use Rattle.alike.specs.Statements.{SameAnswers}
-use Rattle.alike.specs.Statements.{SameAnswers}
-use Rattle.alike.specs.Statements.{SameAnswers}
-use Rattle.alike.specs.Statements.{SameAnswers}
-use Rattle.alike.specs.Statements.{SameAnswers}
-use Rattle.alike.specs.Statements.{SameAnswers}
-use Rattle.alike.specs.Statements.{SameAnswers}
-use Rattle.alike.specs.Statements.{SameAnswers}
-use Rattle.alike.specs.Statements.{SameAnswers}
-use Rattle.alike.specs.Statements.{SameAnswers}
 use Rattle.alike.specs.Statements.{SameAnswers}
 
 pub record Twin (d₁ d₂ : Driver) : Type 0 where

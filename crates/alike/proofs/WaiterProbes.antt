@@ -10,31 +10,35 @@ use lib.Seq.{ext-getD}
 use borrow.Author.Tests.{lt-ltb}
 use Rattle.hash.specs.Logic.{if}
 use Rattle.head_anchor.specs.Anchors.{holds, sameAnchor}
-use Rattle.head_count.specs.Waiters.{slotOf, woken}
-use Rattle.head_current.specs.Heads.{anchorOf, delivery, preparingAt, redelivery, repeats, sameDelivery}
-use Rattle.head_moves.specs.Moves.{claimedHead, wakeCurrent}
-use Rattle.head_calls.specs.Calls.{claim, deliver}
-use Rattle.head_driver.specs.Parts.{endingWith, viewed, withLife}
-use Rattle.head_calls.specs.Parts.{claimAs, deliverAs}
-use Rattle.head_gate.specs.Gates.{claimGate}
-use Rattle.head_life.specs.Claim.{claimStart, claimed, released}
-use Rattle.head_life.specs.Deliver.{delivered, newHead}
+use Rattle.head_attempt.specs.Waiters.{slotOf, woken}
+use Rattle.head_current.specs.Heads.{anchorOf, delivery}
+use Rattle.head_waits.specs.Parts.{preparingAt, abandonedView, join, resumeAs, unowned, viewedBy, waiterAt}
+use Rattle.head_deliver.specs.Repeats.{redelivery, repeats, sameDelivery}
+use Rattle.head_claim.specs.Claimed.{claimedHead, claimed}
+use Rattle.head_driver.specs.Parts.{wakeCurrent, endingWith, withLife}
+use Rattle.head_claim.specs.Claim.{claim}
+use Rattle.head_deliver.specs.Deliver.{deliver}
+use Rattle.head_snapshot.specs.Parts.{viewed}
+use Rattle.head_claim.specs.Parts.{claimAs}
+use Rattle.head_deliver.specs.Parts.{deliverAs}
+use Rattle.head_claim.specs.Starts.{claimGate, claimStart}
+use Rattle.head_release.specs.Released.{released}
+use Rattle.head_deliver.specs.Delivered.{delivered, newHead}
 use Rattle.head_ready.specs.Generations.{isReady}
 use Rattle.head_life.specs.State.{counted}
 use Rattle.head_step.specs.Dispatch.{dispatch}
-use Rattle.head_view.specs.Snapshot.{generationView, spareView, view, viewOf}
+use Rattle.head_snapshot.specs.Views.{generationView, spareView, view, viewOf}
 use Rattle.head_waits.specs.Calls.{resume}
-use Rattle.head_waits.specs.Parts.{abandonedView, join, resumeAs, unowned, viewedBy, waiterAt}
 use Rattle.hash.specs.declared.Hash.{Hash}
 use Rattle.head_anchor.specs.declared.storage_memo.AnchorSlot.{AnchorSlot}
 use Rattle.head_anchor.specs.declared.storage_memo.ReadAnchor.{ReadAnchor}
-use Rattle.head_count.specs.declared.head_lifecycle.HeadCompletion.{HeadCompletion}
+use Rattle.head_attempt.specs.declared.head_lifecycle.HeadCompletion.{HeadCompletion}
 use Rattle.head_count.specs.declared.head_lifecycle.Seq.{Seq}
-use Rattle.head_count.specs.declared.head_lifecycle.Waiter.{Waiter}
-use Rattle.head_count.specs.declared.head_lifecycle.WaiterSlot.{WaiterSlot}
+use Rattle.head_attempt.specs.declared.head_lifecycle.Waiter.{Waiter}
+use Rattle.head_attempt.specs.declared.head_lifecycle.WaiterSlot.{WaiterSlot}
 use Rattle.head_current.specs.declared.head_lifecycle.CurrentHead.{CurrentHead}
 use Rattle.head_current.specs.declared.head_lifecycle.DeliverySlot.{DeliverySlot}
-use Rattle.head_current.specs.declared.head_lifecycle.Redelivery.{Redelivery}
+use Rattle.head_deliver.specs.declared.head_lifecycle.Redelivery.{Redelivery}
 use Rattle.head_current.specs.declared.head_lifecycle.UnsettledHead.{UnsettledHead}
 use Rattle.head_driver.specs.declared.head_lifecycle.Answer.{Answer}
 use Rattle.head_driver.specs.declared.head_lifecycle.Driver.{Driver}
@@ -44,7 +48,7 @@ use Rattle.head_life.specs.declared.head_lifecycle.HeadLifecycle.{HeadLifecycle
 use Rattle.head_ready.specs.declared.head_lifecycle.HeadReadiness.{HeadReadiness}
 use Rattle.head_ready.specs.declared.head_lifecycle.HeadView.{HeadView}
 use Rattle.head_ready.specs.declared.head_lifecycle.Source.{Source}
-use Rattle.head_step.specs.declared.head_lifecycle.Call.{Call}
+use Rattle.head_call.specs.declared.head_lifecycle.Call.{Call}
 use Rattle.alike.proofs.Alike.{unsettledAt}
 use Rattle.alike.proofs.Brought.{cold-step, delivering, outside, outside-first, outside-fits, release-hit, zeros, zeros-fit}
 use Rattle.alike.proofs.DeepProbes.{twin-cold, twin-colded}

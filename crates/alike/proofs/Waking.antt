@@ -3,14 +3,14 @@ use Prim.Native.Nat.{ℕ, zero, suc}
 use mathlib.Core.List.{List, [], _∷_}
 use mathlib.Core.Path.{_≡_, refl, ap, _∙_}
 use lib.ListN.{length, set}
-use Rattle.head_count.specs.Waiters.{slotOf, wake, woken}
-use Rattle.head_moves.specs.Moves.{wakeCurrent}
-use Rattle.head_reads.specs.Calls.{free}
+use Rattle.head_attempt.specs.Waiters.{slotOf, wake, woken}
+use Rattle.head_driver.specs.Parts.{wakeCurrent}
+use Rattle.head_driver.specs.New.{free}
 use Rattle.head_waits.specs.Parts.{waiterAt}
 use Rattle.head_anchor.specs.declared.storage_memo.ReadAnchor.{ReadAnchor}
-use Rattle.head_count.specs.declared.head_lifecycle.HeadCompletion.{HeadCompletion}
-use Rattle.head_count.specs.declared.head_lifecycle.Waiter.{Waiter}
-use Rattle.head_count.specs.declared.head_lifecycle.WaiterSlot.{WaiterSlot}
+use Rattle.head_attempt.specs.declared.head_lifecycle.HeadCompletion.{HeadCompletion}
+use Rattle.head_attempt.specs.declared.head_lifecycle.Waiter.{Waiter}
+use Rattle.head_attempt.specs.declared.head_lifecycle.WaiterSlot.{WaiterSlot}
 use Rattle.head_current.specs.declared.head_lifecycle.CurrentHead.{CurrentHead}
 use Rattle.alike.specs.Invariant.{NoneParked, NotParked, Parks}
 use Rattle.alike.specs.Ranges.{AnchorFits, HeadFits, WaiterFits, WaitersFit}

@@ -4,17 +4,17 @@ use mathlib.Core.Bool.{Bool, true, false}
 use mathlib.Core.List.{List, [], _∷_}
 use Rattle.hash.specs.Logic.{both, if}
 use Rattle.head_anchor.specs.Anchors.{holds}
-use Rattle.head_count.specs.Attempts.{minted, settled}
+use Rattle.head_attempt.specs.Attempts.{minted, settled}
 use Rattle.head_count.specs.Counters.{epochOf, seqOf}
-use Rattle.head_count.specs.Waiters.{slotOf}
+use Rattle.head_attempt.specs.Waiters.{slotOf}
 use Rattle.head_current.specs.Heads.{anchorOf, delivery}
-use Rattle.head_life.specs.Deliver.{deliveryOf}
+use Rattle.head_deliver.specs.Delivered.{deliveryOf}
 use Rattle.head_ready.specs.Generations.{slotAnchor}
 use Rattle.head_anchor.specs.declared.storage_memo.AnchorSlot.{AnchorSlot}
 use Rattle.head_anchor.specs.declared.storage_memo.ReadAnchor.{ReadAnchor}
 use Rattle.head_count.specs.declared.head_lifecycle.Epoch.{Epoch}
-use Rattle.head_count.specs.declared.head_lifecycle.Waiter.{Waiter}
-use Rattle.head_count.specs.declared.head_lifecycle.WaiterSlot.{WaiterSlot}
+use Rattle.head_attempt.specs.declared.head_lifecycle.Waiter.{Waiter}
+use Rattle.head_attempt.specs.declared.head_lifecycle.WaiterSlot.{WaiterSlot}
 use Rattle.head_current.specs.declared.head_lifecycle.CurrentHead.{CurrentHead}
 use Rattle.head_current.specs.declared.head_lifecycle.HeadDelivery.{HeadDelivery}
 use Rattle.head_driver.specs.declared.head_lifecycle.Driver.{Driver}

@@ -7,15 +7,16 @@ use mathlib.Core.Path.{_≡_}
 use Rattle.hash.specs.Logic.{both}
 use Rattle.head_anchor.specs.Anchors.{holds}
 use Rattle.head_anchor.specs.Lists.{isLinked, isRead}
-use Rattle.head_count.specs.Attempts.{minted}
+use Rattle.head_attempt.specs.Attempts.{minted}
 use Rattle.head_count.specs.Counters.{seqOf}
-use Rattle.head_current.specs.Heads.{delivery, lastReport}
+use Rattle.head_current.specs.Heads.{delivery}
+use Rattle.head_reads.specs.Reports.{lastReport}
 use Rattle.head_ready.specs.Generations.{settledReadiness, slotAnchor}
 use Rattle.head_anchor.specs.declared.read_hub.CarryOutcome.{CarryOutcome}
 use Rattle.head_anchor.specs.declared.storage_memo.AnchorSlot.{AnchorSlot}
-use Rattle.head_count.specs.declared.head_lifecycle.HeadCompletion.{HeadCompletion}
-use Rattle.head_count.specs.declared.head_lifecycle.Waiter.{Waiter}
-use Rattle.head_count.specs.declared.head_lifecycle.WaiterSlot.{WaiterSlot}
+use Rattle.head_attempt.specs.declared.head_lifecycle.HeadCompletion.{HeadCompletion}
+use Rattle.head_attempt.specs.declared.head_lifecycle.Waiter.{Waiter}
+use Rattle.head_attempt.specs.declared.head_lifecycle.WaiterSlot.{WaiterSlot}
 use Rattle.head_current.specs.declared.head_lifecycle.CurrentHead.{CurrentHead}
 use Rattle.head_current.specs.declared.head_lifecycle.DeliverySlot.{DeliverySlot}
 use Rattle.head_current.specs.declared.head_lifecycle.HeadDelivery.{HeadDelivery}

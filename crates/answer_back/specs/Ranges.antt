@@ -1,7 +1,7 @@
 -- Every number of an answer is one of 64 bits, and so is every word of its hashes.
 use Rattle.script_back.specs.Ranges.{AnchorFits, Fits, OutcomeFits, ReadinessFits, ReportFits, SlotFits, StatsFit}
 use Rattle.head_driver.specs.declared.head_lifecycle.Answer.{Answer}
-use Rattle.head_gate.specs.declared.head_lifecycle.HeadOutcome.{HeadOutcome}
+use Rattle.head_ready.specs.declared.head_lifecycle.HeadOutcome.{HeadOutcome}
 
 abbrev pub HeadOutcomeFits : HeadOutcome → Type 0
 HeadOutcomeFits (HeadOutcome.Settled o) = OutcomeFits o

@@ -14,7 +14,7 @@ use Rattle.text.specs.Same.{sameText}
 use Rattle.head_anchor.specs.declared.read_hub.CarryOutcome.{CarryOutcome}
 use Rattle.head_anchor.specs.declared.storage_memo.ReadAnchor.{ReadAnchor}
 use Rattle.head_driver.specs.declared.head_lifecycle.Answer.{Answer}
-use Rattle.head_gate.specs.declared.head_lifecycle.HeadOutcome.{HeadOutcome}
+use Rattle.head_ready.specs.declared.head_lifecycle.HeadOutcome.{HeadOutcome}
 use Rattle.value_text.specs.declared.page.Page.{Page}
 
 -- ---- values, each after a space

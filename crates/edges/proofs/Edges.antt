@@ -5,7 +5,7 @@ use mathlib.Core.Path.{_≡_, refl, ap, ap₂, _∙_}
 use lib.ListN.{length}
 use borrow.Author.Tests.{le-ltb}
 use Rattle.driver.specs.Turns.{lineText, made, sheetAnswer, turnOf}
-use Rattle.head_reads.specs.Calls.{new}
+use Rattle.head_driver.specs.New.{new}
 use Rattle.head_step.specs.Steps.{step}
 use Rattle.rules.proofs.Feeds.{sheet-wrote}
 use Rattle.rules.specs.Sheets.{toLastFeed, wroteOf}

@@ -3,7 +3,7 @@ use Prim.Native.Nat.{ℕ, _≤_}
 use mathlib.Core.List.{List, [], _∷_}
 use mathlib.Core.Path.{_≡_}
 use lib.ListN.{length}
-use Rattle.head_reads.specs.Calls.{new}
+use Rattle.head_driver.specs.New.{new}
 use Rattle.edges.specs.Runs.{Line, expected, printedBy}
 use Rattle.edges.specs.Table.{table}
 

@@ -1,3 +1,2 @@
--- Document 01, "Lifecycle": `apply`. Apply is the paper's; Parts is what it is made of.
-pub mod Parts
+-- Document 01, "Lifecycle" and "Turned away": `apply`. All of it is the paper's.
 pub mod Apply

@@ -1,18 +1,18 @@
 // From head_lifecycle.rs: `BalHeadDriver::apply_members`.
 ghost use mathlib.Core.Path.{_≡_};
+ghost use Rattle.head_anchor.specs.Lists.{outcome};
+ghost use Rattle.head_apply.specs.Apply.{apply, applyAs, settleAs};
 ghost use Rattle.head_driver.specs.Answers.{Replies};
 ghost use Rattle.head_driver.specs.Parts.{replyOf, withLife};
 ghost use Rattle.head_life.specs.State.{counted};
-ghost use Rattle.head_apply.specs.Parts.{settleAs, applyAs};
-ghost use Rattle.head_apply.specs.Apply.{apply};
 use head_anchor::bal_prefetch::BalSkip;
 use head_anchor::delta_snapshot::apply_prepared;
 use head_anchor::read_hub::CarryOutcome;
 use head_anchor::read_hub::PreparedBal;
 use head_anchor::read_hub::as_prepared;
 use head_anchor::storage_memo::ReadAnchor;
+use head_attempt::head_lifecycle::HeadCompletion;
 use head_count::head_lifecycle::Counter;
-use head_count::head_lifecycle::HeadCompletion;
 use head_current::head_lifecycle::HeadDelivery;
 use head_current::head_lifecycle::HeadTicket;
 use head_driver::head_lifecycle::Answer;
@@ -21,8 +21,10 @@ use head_driver::head_lifecycle::Reply;
 use head_driver::head_lifecycle::answered;
 use head_driver::head_lifecycle::ending;
 use head_driver::head_lifecycle::with_life;
-use head_gate::head_lifecycle::ApplyPlan;
-use head_gate::head_lifecycle::HeadOutcome;
+use head_plan::head_lifecycle::ApplyPlan;
+use head_plan::head_lifecycle::plan_apply;
+use head_ready::head_lifecycle::HeadOutcome;
+use head_settle::head_lifecycle::settle;
 
 pub(crate) fn settle_as(
     d: Driver,
@@ -36,7 +38,7 @@ pub(crate) fn settle_as(
     answered(
         ending(
             d,
-            d.life.settle(anchor, outcome, handle, report),
+            settle(d.life, anchor, outcome, handle, report),
             HeadCompletion::Settled,
         ),
         Answer::Outcome(HeadOutcome::Settled(outcome)),
@@ -111,7 +113,7 @@ pub fn apply(
             handle,
             carried,
             report,
-            d.life.plan_apply(ticket, list.anchor),
+            plan_apply(d.life, ticket, list.anchor),
         );
     }
     answered(d, Answer::ListAtOdds)

@@ -1,5 +1,5 @@
 -- Document 01, "Lifecycle": all counters saturate. The Rust: `saturating_add(1)` on `seq`, `claim_epoch` and the fields of `HeadStats`, of head_lifecycle.rs.
-use Prim.Native.Nat.{ℕ, _+_}
+use Prim.Native.Nat.{_+_, ℕ}
 use mathlib.Core.Bool.{Bool}
 use lib.Dec.{eqb, ltb}
 use Rattle.hash.specs.Logic.{if}

@@ -1,3 +1,3 @@
-// Delivery numbers, claim epochs, the eight counters, claim attempts and the sixteen waiters: what a call counts and whom it wakes.
-// Knows anchors; knows nothing of a head.
+// Delivery numbers, epochs and the eight counters.
+// Knows nothing of heads, of attempts or of waiters.
 pub mod head_lifecycle;

@@ -1,2 +1,3 @@
--- Document 01, "Lifecycle": the current head and its moves. All of it is the paper's.
+-- Document 01, "Lifecycle": the current head. Heads are the paper's; Parts are what the moves are made of.
 pub mod Heads
+pub mod Parts

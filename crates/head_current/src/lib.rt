@@ -1,3 +1,3 @@
-// The current head: absent, or unclaimed, preparing or settled, and what is read off it.
+// The current head: absent, or unclaimed, preparing or settled, with what was delivered.
 // Knows nothing of how it moves, of what is installed or of the counters.
 pub mod head_lifecycle;

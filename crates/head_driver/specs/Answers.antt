@@ -1,19 +1,19 @@
 -- Document 01, "Calls and answers", "Turned away by the input", "Turned away by the state": for each case of an answer the number (0 where the call is accepted), the word
 -- and the values in order.
 use Prim.Native.Nat.{ℕ}
-use mathlib.Core.List.{List, [], _∷_}
 use mathlib.Core.Path.{_≡_}
+use mathlib.Core.List.{List, [], _∷_}
 use Rattle.head_anchor.specs.Values.{Value, anchorValue, faultValue, linkValue, outcomeValue, skipValue, slotValue}
 use Rattle.head_anchor.specs.Words.{Word}
-use Rattle.head_count.specs.declared.head_lifecycle.HeadCompletion.{HeadCompletion}
+use Rattle.head_attempt.specs.declared.head_lifecycle.HeadCompletion.{HeadCompletion}
 use Rattle.head_count.specs.declared.head_lifecycle.HeadStats.{HeadStats}
 use Rattle.head_current.specs.declared.head_lifecycle.LastReport.{LastReport}
-use Rattle.head_ready.specs.declared.head_lifecycle.HeadCold.{HeadCold}
-use Rattle.head_gate.specs.declared.head_lifecycle.HeadOutcome.{HeadOutcome}
-use Rattle.head_ready.specs.declared.head_lifecycle.HeadReadiness.{HeadReadiness}
-use Rattle.head_ready.specs.declared.head_lifecycle.Source.{Source}
 use Rattle.head_driver.specs.declared.head_lifecycle.Answer.{Answer}
 use Rattle.head_driver.specs.declared.head_lifecycle.Reply.{Reply}
+use Rattle.head_ready.specs.declared.head_lifecycle.HeadCold.{HeadCold}
+use Rattle.head_ready.specs.declared.head_lifecycle.HeadOutcome.{HeadOutcome}
+use Rattle.head_ready.specs.declared.head_lifecycle.HeadReadiness.{HeadReadiness}
+use Rattle.head_ready.specs.declared.head_lifecycle.Source.{Source}
 
 pub record Said : Type 0 where
   pub number : ℕ

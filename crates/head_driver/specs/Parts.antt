@@ -1,12 +1,13 @@
 -- What the calls on a driver share: one definition for each function that their code goes through.
-use Rattle.head_moves.specs.Moves.{wakeCurrent}
-use Rattle.head_life.specs.State.{viewCounted}
-use Rattle.head_count.specs.declared.head_lifecycle.HeadCompletion.{HeadCompletion}
-use Rattle.head_life.specs.declared.head_lifecycle.HeadLifecycle.{HeadLifecycle}
-use Rattle.head_ready.specs.declared.head_lifecycle.HeadView.{HeadView}
+use mathlib.Core.List.{List}
+use Rattle.head_attempt.specs.Waiters.{wake}
+use Rattle.head_attempt.specs.declared.head_lifecycle.HeadCompletion.{HeadCompletion}
+use Rattle.head_attempt.specs.declared.head_lifecycle.WaiterSlot.{WaiterSlot}
+use Rattle.head_current.specs.declared.head_lifecycle.CurrentHead.{CurrentHead}
 use Rattle.head_driver.specs.declared.head_lifecycle.Answer.{Answer}
 use Rattle.head_driver.specs.declared.head_lifecycle.Driver.{Driver}
 use Rattle.head_driver.specs.declared.head_lifecycle.Reply.{Reply}
+use Rattle.head_life.specs.declared.head_lifecycle.HeadLifecycle.{HeadLifecycle}
 
 abbrev pub replyOf : Driver → Answer → Reply
 replyOf d answer = record { driver = d; answer = answer }
@@ -14,10 +15,13 @@ replyOf d answer = record { driver = d; answer = answer }
 unfoldable pub withLife : Driver → HeadLifecycle → Driver
 withLife d l = record { life = l; waiters = d .waiters }
 
+-- the waiters after the current preparation, if there is one, has ended so
+unfoldable pub wakeCurrent : HeadCompletion → CurrentHead → List WaiterSlot → List WaiterSlot
+wakeCurrent end CurrentHead.Absent ws = ws
+wakeCurrent end (CurrentHead.Unclaimed u) ws = ws
+wakeCurrent end (CurrentHead.Preparing u) ws = wake end (u .delivery .anchor) ws
+wakeCurrent end (CurrentHead.Settled s) ws = ws
+
 -- the next lifecycle, with the current preparation ended so
 abbrev pub endingWith : Driver → HeadLifecycle → HeadCompletion → Driver
 endingWith d l end = record { life = l; waiters = wakeCurrent end (d .life .current) (d .waiters) }
-
--- a view that is counted, and what is shown of it
-unfoldable pub viewed : Driver → HeadView → HeadView → Reply
-viewed d v shown = replyOf (withLife d (viewCounted (d .life) (v .readiness))) (Answer.View shown)

@@ -1,18 +1,22 @@
 // From head_lifecycle.rs: `BalHeadDriver`, and what its calls answer. A call takes the driver by value and gives it back with its answer.
 ghost use mathlib.Core.Path.{_≡_};
-ghost use Rattle.head_driver.specs.Answers.{Replies, outcomeSaid, said};
-ghost use Rattle.head_driver.specs.Parts.{replyOf, withLife, endingWith, viewed};
+ghost use Rattle.head_anchor.specs.Lists.{outcome};
+ghost use Rattle.head_driver.specs.Answers.{outcomeSaid, said};
+ghost use Rattle.head_driver.specs.New.{new};
+ghost use Rattle.head_driver.specs.Parts.{endingWith, replyOf, wakeCurrent, withLife};
 use head_anchor::read_hub::Link;
 use head_anchor::storage_memo::AnchorSlot;
+use head_attempt::head_lifecycle::HeadCompletion;
+use head_attempt::head_lifecycle::Waiter;
+use head_attempt::head_lifecycle::WaiterSlot;
+use head_attempt::head_lifecycle::wake;
 use head_count::head_lifecycle::Epoch;
-use head_count::head_lifecycle::HeadCompletion;
 use head_count::head_lifecycle::HeadStats;
 use head_count::head_lifecycle::Seq;
-use head_count::head_lifecycle::WaiterSlot;
+use head_current::head_lifecycle::CurrentHead;
 use head_current::head_lifecycle::LastReport;
-use head_gate::head_lifecycle::HeadOutcome;
 use head_life::head_lifecycle::HeadLifecycle;
-use head_moves::head_lifecycle::wake_current;
+use head_ready::head_lifecycle::HeadOutcome;
 use head_ready::head_lifecycle::HeadView;
 
 pub struct Driver {
@@ -80,6 +84,19 @@ impl Answer {
     }
 }
 
+pub fn new() -> Driver
+    ensures { λ r. ⌜ r ≡ new ⌝ }
+{
+    let slot = WaiterSlot {
+        waiter: Waiter::Free,
+    };
+    let life = HeadLifecycle::new();
+    Driver {
+        life,
+        waiters: [slot; 16],
+    }
+}
+
 pub fn answered(d: Driver, answer: Answer) -> Reply
     ensures { λ r. ⌜ r ≡ replyOf d answer ⌝ }
 {
@@ -94,6 +111,22 @@ pub fn with_life(d: Driver, life: HeadLifecycle) -> Driver
     next
 }
 
+// Only a preparing head has waiters parked on it.
+pub(crate) fn wake_current(
+    end: HeadCompletion,
+    current: CurrentHead,
+    waiters: [WaiterSlot; 16],
+) -> [WaiterSlot; 16]
+    ensures { λ r. ⌜ r ≡ wakeCurrent end current waiters ⌝ }
+{
+    match current {
+        CurrentHead::Absent => return waiters,
+        CurrentHead::Unclaimed(_) => return waiters,
+        CurrentHead::Preparing(u) => return wake(end, u.delivery.anchor, waiters),
+        CurrentHead::Settled(_) => return waiters,
+    }
+}
+
 // The next lifecycle, with the current preparation, if there is one, ended so.
 pub fn ending(d: Driver, next: HeadLifecycle, end: HeadCompletion) -> Driver
     ensures { λ r. ⌜ r ≡ endingWith d next end ⌝ }
@@ -106,15 +139,4 @@ pub fn ending(d: Driver, next: HeadLifecycle, end: HeadCompletion) -> Driver
         life: next,
         waiters,
     }
-}
-
-// Counts the view and answers what is shown of it.
-pub fn viewed(d: Driver, view: HeadView, shown: HeadView) -> Reply
-    ensures { λ r. ⌜ r ≡ viewed d view shown ⌝ }
-{
-    let readiness = view.readiness;
-    answered(
-        with_life(d, d.life.record_view(readiness)),
-        Answer::View(shown),
-    )
 }

@@ -1,9 +1,9 @@
 -- Which case of a value a printing function met.
 use mathlib.Core.Bool.{Bool, true, false}
-use Rattle.head_reads.specs.Calls.{link}
+use Rattle.head_link.specs.Link.{link}
 use Rattle.head_anchor.specs.declared.read_hub.CarryOutcome.{CarryOutcome}
 use Rattle.head_anchor.specs.declared.storage_memo.AnchorSlot.{AnchorSlot}
-use Rattle.head_count.specs.declared.head_lifecycle.HeadCompletion.{HeadCompletion}
+use Rattle.head_attempt.specs.declared.head_lifecycle.HeadCompletion.{HeadCompletion}
 use Rattle.head_current.specs.declared.head_lifecycle.LastReport.{LastReport}
 use Rattle.head_ready.specs.declared.head_lifecycle.Source.{Source}
 

@@ -1,17 +1,13 @@
--- Document 01, "What contracts say": a new driver's lifecycle; a lifecycle with one counter raised; and the end that `completion` answers. The Rust: `HeadLifecycle`, of head_lifecycle.rs.
-use Rattle.hash.specs.Logic.{if}
-use Rattle.head_anchor.specs.Anchors.{holds}
+-- Document 01, "What contracts say": a new driver's lifecycle; a lifecycle with one counter raised, or with another current head. The Rust: `HeadLifecycle`, of head_lifecycle.rs.
 use Rattle.head_count.specs.Counters.{epochOf, noneCounted, raise, recordView, seqOf}
-use Rattle.head_current.specs.Heads.{anchorOf, delivery, published}
+use Rattle.head_ready.specs.Generations.{isReady}
 use Rattle.head_anchor.specs.declared.storage_memo.AnchorSlot.{AnchorSlot}
-use Rattle.head_anchor.specs.declared.storage_memo.ReadAnchor.{ReadAnchor}
 use Rattle.head_count.specs.declared.head_lifecycle.Counter.{Counter}
-use Rattle.head_count.specs.declared.head_lifecycle.HeadCompletion.{HeadCompletion}
+use Rattle.head_count.specs.declared.head_lifecycle.Epoch.{Epoch}
 use Rattle.head_count.specs.declared.head_lifecycle.HeadStats.{HeadStats}
 use Rattle.head_current.specs.declared.head_lifecycle.CurrentHead.{CurrentHead}
-use Rattle.head_ready.specs.Generations.{isReady}
-use Rattle.head_ready.specs.declared.delta_snapshot.GenerationSlot.{GenerationSlot}
 use Rattle.head_life.specs.declared.head_lifecycle.HeadLifecycle.{HeadLifecycle}
+use Rattle.head_ready.specs.declared.delta_snapshot.GenerationSlot.{GenerationSlot}
 use Rattle.head_ready.specs.declared.head_lifecycle.HeadReadiness.{HeadReadiness}
 
 -- no current head, no superseded anchor, nothing installed or previous, all counters 0
@@ -45,6 +41,13 @@ counted l counter = withStats l (raise counter (l .stats))
 unfoldable pub viewCounted : HeadLifecycle → HeadReadiness → HeadLifecycle
 viewCounted l readiness = withStats l (recordView (isReady readiness) (l .stats))
 
--- END: none, or the current attempt's end if the anchor is current: `HeadLifecycle::completion`
-unfoldable pub endAt : HeadLifecycle → ReadAnchor → HeadCompletion
-endAt l a = if (holds (anchorOf (delivery (l .current))) a) (published (l .current)) HeadCompletion.Open
+abbrev pub withHead : HeadLifecycle → CurrentHead → Epoch → HeadLifecycle
+withHead l head e = record {
+  current = head;
+  superseded = l .superseded;
+  installed = l .installed;
+  previous = l .previous;
+  seq = l .seq;
+  «claim_epoch» = e;
+  stats = l .stats;
+}

@@ -1,3 +1,3 @@
-// The head lifecycle: the current head, what is installed, what was installed before it, and the counters; one method a move.
-// Knows nothing of waiters, of answers or of lines.
+// The head lifecycle: the current head, what is installed, what was installed before it, and the counters.
+// Knows nothing of the calls that move it, of waiters, of answers or of lines.
 pub mod head_lifecycle;

@@ -1,2 +1,3 @@
--- Document 01: a new driver, and the calls that change nothing. All of it is the paper's.
+-- Document 01, "Lines": the calls that only read the driver. All of it is the paper's.
+pub mod Reports
 pub mod Calls

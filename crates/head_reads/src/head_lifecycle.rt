@@ -1,42 +1,24 @@
-// From head_lifecycle.rs: `completion`, `last_report`, `stats`, `delivered`, `installed` and `previous` of `BalHeadDriver`; and `classify_link`, of read_hub.rs, as a call.
+// From head_lifecycle.rs: `last_report`, `stats`, `delivered`, `installed` and `previous` of `BalHeadDriver`.
 ghost use mathlib.Core.Path.{_≡_};
 ghost use Rattle.head_driver.specs.Answers.{Replies};
-ghost use Rattle.head_reads.specs.Calls.{new, completion, link, report, stats, heads};
-use hash::Hash;
-use head_anchor::read_hub::classify_link;
-use head_anchor::storage_memo::AnchorSlot;
-use head_anchor::storage_memo::ReadAnchor;
-use head_count::head_lifecycle::Waiter;
-use head_count::head_lifecycle::WaiterSlot;
+ghost use Rattle.head_reads.specs.Calls.{heads, report, stats};
+ghost use Rattle.head_reads.specs.Reports.{lastReport};
+use head_current::head_lifecycle::CurrentHead;
+use head_current::head_lifecycle::LastReport;
 use head_driver::head_lifecycle::Answer;
 use head_driver::head_lifecycle::Driver;
 use head_driver::head_lifecycle::Reply;
 use head_driver::head_lifecycle::answered;
-use head_life::head_lifecycle::HeadLifecycle;
 
-pub fn new() -> Driver
-    ensures { λ r. ⌜ r ≡ new ⌝ }
+pub(crate) fn last_report(current: CurrentHead) -> LastReport
+    ensures { λ r. ⌜ r ≡ lastReport current ⌝ }
 {
-    let slot = WaiterSlot {
-        waiter: Waiter::Free,
-    };
-    let life = HeadLifecycle::new();
-    Driver {
-        life,
-        waiters: [slot; 16],
+    match current {
+        CurrentHead::Absent => return LastReport::Nothing,
+        CurrentHead::Unclaimed(_) => return LastReport::Nothing,
+        CurrentHead::Preparing(_) => return LastReport::Nothing,
+        CurrentHead::Settled(s) => return s.report,
     }
-}
-
-pub fn completion(d: Driver, anchor: ReadAnchor) -> Reply
-    ensures { λ r. ⌜ Replies r (completion d anchor) ⌝ }
-{
-    answered(d, Answer::Completion(d.life.completion(anchor)))
-}
-
-pub fn link(d: Driver, parent: AnchorSlot, child: ReadAnchor, parent_hash: Hash) -> Reply
-    ensures { λ r. ⌜ Replies r (link d parent child «parent_hash») ⌝ }
-{
-    answered(d, Answer::Link(classify_link(parent, child, parent_hash)))
 }
 
 pub fn report(d: Driver) -> Reply
@@ -44,7 +26,7 @@ pub fn report(d: Driver) -> Reply
 {
     let life = d.life;
     let current = life.current;
-    answered(d, Answer::Report(current.report()))
+    answered(d, Answer::Report(last_report(current)))
 }
 
 pub fn stats(d: Driver) -> Reply

@@ -1,3 +1,3 @@
-// A new driver, and the calls that change nothing: completion, link, report, stats, heads.
-// Knows nothing of lines.
+// The calls that only read the driver: report, stats, heads.
+// Knows nothing of the other calls, nor of lines.
 pub mod head_lifecycle;

@@ -1,6 +1,6 @@
 -- Document 01, "Lifecycle": the installed and the previous generation, and their readiness. The Rust: the cache's slot, of delta_snapshot.rs, and `InstalledGeneration`,
 -- `PreviousGeneration`, `settled_readiness`, `record_settle`, of head_lifecycle.rs.
-use mathlib.Core.Bool.{Bool, true, false}
+use mathlib.Core.Bool.{Bool, false, true}
 use Rattle.head_anchor.specs.declared.read_hub.CarryOutcome.{CarryOutcome}
 use Rattle.head_anchor.specs.declared.storage_memo.AnchorSlot.{AnchorSlot}
 use Rattle.head_ready.specs.declared.delta_snapshot.GenerationSlot.{GenerationSlot}

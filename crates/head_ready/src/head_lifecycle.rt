@@ -1,9 +1,11 @@
 // From head_lifecycle.rs: `HeadCold`, `HeadReadiness`, `HeadView` with its source, `settled_readiness`.
 ghost use mathlib.Core.Path.{_≡_};
-ghost use Rattle.head_ready.specs.Generations.{settledReadiness, isReady};
+ghost use Rattle.head_anchor.specs.Lists.{outcome};
+ghost use Rattle.head_ready.specs.Generations.{isReady, settledReadiness};
 use head_anchor::bal_prefetch::BalSkip;
 use head_anchor::read_hub::CarryOutcome;
 use head_anchor::read_hub::Link;
+use head_anchor::storage_memo::ReadAnchor;
 
 pub enum HeadCold {
     Unprepared,
@@ -30,6 +32,14 @@ pub struct HeadView {
     pub source: Source,
     pub handle: u64,
     pub readiness: HeadReadiness,
+}
+
+pub enum HeadOutcome {
+    Settled(CarryOutcome),
+    AlreadySettled,
+    InFlight,
+    Superseded(ReadAnchor),
+    Foreign(ReadAnchor, ReadAnchor),
 }
 
 pub fn settled_readiness(outcome: CarryOutcome) -> HeadReadiness

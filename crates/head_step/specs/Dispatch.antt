@@ -1,23 +1,16 @@
--- What a step is made of: the tests of a call's input, and each call by its definition.
-use Prim.Native.Nat.{ℕ}
-use lib.Dec.{ltb}
-use Rattle.hash.specs.Logic.{if}
-use Rattle.head_anchor.specs.Lists.{asPrepared}
+-- Each call by its definition.
 use Rattle.head_apply.specs.Apply.{apply}
-use Rattle.head_calls.specs.Calls.{claim, deliver, release, snapshot}
-use Rattle.head_reads.specs.Calls.{completion, heads, link, report, stats}
+use Rattle.head_claim.specs.Claim.{claim}
+use Rattle.head_completion.specs.Completion.{completion}
+use Rattle.head_deliver.specs.Deliver.{deliver}
+use Rattle.head_link.specs.Link.{link}
+use Rattle.head_reads.specs.Calls.{heads, report, stats}
+use Rattle.head_release.specs.Release.{release}
+use Rattle.head_snapshot.specs.Snapshot.{snapshot}
 use Rattle.head_waits.specs.Calls.{resume, wait}
-use Rattle.head_anchor.specs.declared.read_hub.PreparedBal.{PreparedBal}
+use Rattle.head_call.specs.declared.head_lifecycle.Call.{Call}
 use Rattle.head_driver.specs.declared.head_lifecycle.Driver.{Driver}
 use Rattle.head_driver.specs.declared.head_lifecycle.Reply.{Reply}
-use Rattle.head_step.specs.declared.head_lifecycle.Call.{Call}
-use Rattle.head_step.specs.declared.head_lifecycle.InputRefusal.{InputRefusal}
-
-unfoldable pub listRefusal : PreparedBal → InputRefusal
-listRefusal list = if (asPrepared list) InputRefusal.Nothing InputRefusal.ListAtOdds
-
-unfoldable pub waiterRefusal : ℕ → InputRefusal
-waiterRefusal n = if (ltb n 16) InputRefusal.Nothing InputRefusal.WaiterOutOfRange
 
 unfoldable pub dispatch : Driver → Call → Reply
 dispatch d (Call.Deliver a p cold) = deliver d a p cold

@@ -1,12 +1,12 @@
 -- Demand 2's step definition: every call, in demand 3's order. A call that its input turns away changes nothing; any other does what its definition says.
+use Rattle.head_call.specs.Inputs.{inputRefusal}
 use Rattle.head_driver.specs.Parts.{replyOf}
+use Rattle.head_step.specs.Dispatch.{dispatch}
+use Rattle.head_call.specs.declared.head_lifecycle.Call.{Call}
+use Rattle.head_call.specs.declared.head_lifecycle.InputRefusal.{InputRefusal}
 use Rattle.head_driver.specs.declared.head_lifecycle.Answer.{Answer}
 use Rattle.head_driver.specs.declared.head_lifecycle.Driver.{Driver}
 use Rattle.head_driver.specs.declared.head_lifecycle.Reply.{Reply}
-use Rattle.head_step.specs.Dispatch.{dispatch}
-use Rattle.head_step.specs.Inputs.{inputRefusal}
-use Rattle.head_step.specs.declared.head_lifecycle.Call.{Call}
-use Rattle.head_step.specs.declared.head_lifecycle.InputRefusal.{InputRefusal}
 
 abbrev pub stepPast : InputRefusal → Driver → Call → Reply
 stepPast InputRefusal.Nothing d call = dispatch d call

@@ -1,3 +1,3 @@
-// Every call as a value, which of them are turned away by their input, and one function for all of them: step.
+// One function for all calls: step.
 // Knows nothing of lines.
 pub mod head_lifecycle;

@@ -1,16 +1,19 @@
 -- What the calls of the waiters are made of: one definition for each function that their code goes through.
 use Prim.Native.Nat.{ℕ}
+use mathlib.Core.Bool.{Bool, false}
 use mathlib.Core.List.{List}
 use lib.ListN.{getD, set}
 use Rattle.hash.specs.Logic.{if}
-use Rattle.head_count.specs.Waiters.{slotOf}
-use Rattle.head_current.specs.Heads.{preparingAt}
-use Rattle.head_driver.specs.Parts.{replyOf, viewed}
+use Rattle.head_anchor.specs.Anchors.{sameAnchor}
+use Rattle.head_attempt.specs.Waiters.{slotOf}
+use Rattle.head_driver.specs.Parts.{replyOf}
 use Rattle.head_ready.specs.Generations.{isReady}
-use Rattle.head_view.specs.Snapshot.{view, viewOf}
+use Rattle.head_snapshot.specs.Parts.{viewed}
+use Rattle.head_snapshot.specs.Views.{view, viewOf}
 use Rattle.head_anchor.specs.declared.storage_memo.ReadAnchor.{ReadAnchor}
-use Rattle.head_count.specs.declared.head_lifecycle.Waiter.{Waiter}
-use Rattle.head_count.specs.declared.head_lifecycle.WaiterSlot.{WaiterSlot}
+use Rattle.head_attempt.specs.declared.head_lifecycle.Waiter.{Waiter}
+use Rattle.head_attempt.specs.declared.head_lifecycle.WaiterSlot.{WaiterSlot}
+use Rattle.head_current.specs.declared.head_lifecycle.CurrentHead.{CurrentHead}
 use Rattle.head_driver.specs.declared.head_lifecycle.Answer.{Answer}
 use Rattle.head_driver.specs.declared.head_lifecycle.Driver.{Driver}
 use Rattle.head_driver.specs.declared.head_lifecycle.Reply.{Reply}
@@ -52,6 +55,13 @@ put d n w = record { life = d .life; waiters = set (d .waiters) n (slotOf w) }
 -- a view counts, and frees the number
 unfoldable pub viewedBy : Driver → ℕ → HeadView → HeadView → Reply
 viewedBy d n v shown = replyOf (put (viewed d v shown .driver) n Waiter.Free) (viewed d v shown .answer)
+
+-- the current head is preparing at that anchor: `HeadLifecycle::registration`
+unfoldable pub preparingAt : CurrentHead → ReadAnchor → Bool
+preparingAt CurrentHead.Absent a = false
+preparingAt (CurrentHead.Unclaimed u) a = false
+preparingAt (CurrentHead.Preparing u) a = sameAnchor (u .delivery .anchor) a
+preparingAt (CurrentHead.Settled s) a = false
 
 -- parks it if the current head is preparing at that anchor, else answers a view at once, `unprepared` shown as `abandoned`
 unfoldable pub join : Driver → ℕ → ReadAnchor → ℕ → Reply

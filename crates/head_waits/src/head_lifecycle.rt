@@ -1,25 +1,27 @@
 // From head_lifecycle.rs: `BalHeadDriver::wait_for_head` and `abandoned_view`. A poll of its future is a call here: the first one `wait`, each later one `resume`.
-ghost use mathlib.Core.Path.{_≡_};
 ghost use lib.ListN.{set};
-ghost use Rattle.head_current.specs.Heads.{preparingAt};
+ghost use mathlib.Core.Path.{_≡_};
 ghost use Rattle.head_driver.specs.Answers.{Replies};
 ghost use Rattle.head_driver.specs.Parts.{replyOf};
-ghost use Rattle.head_waits.specs.Parts.{unownedReason, unownedReadiness, unowned, abandonedView, waiterAt, put, viewedBy, join, waitAs, resumeAs};
-ghost use Rattle.head_waits.specs.Calls.{wait, resume};
+ghost use Rattle.head_snapshot.specs.Views.{view};
+ghost use Rattle.head_waits.specs.Calls.{resume, wait};
+ghost use Rattle.head_waits.specs.Parts.{abandonedView, join, preparingAt, put, resumeAs, unowned, unownedReadiness, unownedReason, viewedBy, waitAs, waiterAt};
 use head_anchor::storage_memo::ReadAnchor;
-use head_count::head_lifecycle::Waiter;
-use head_count::head_lifecycle::WaiterSlot;
+use head_anchor::storage_memo::same_anchor;
+use head_attempt::head_lifecycle::Waiter;
+use head_attempt::head_lifecycle::WaiterSlot;
+use head_current::head_lifecycle::CurrentHead;
 use head_driver::head_lifecycle::Answer;
 use head_driver::head_lifecycle::Driver;
 use head_driver::head_lifecycle::Reply;
 use head_driver::head_lifecycle::answered;
-use head_driver::head_lifecycle::viewed;
 use head_life::head_lifecycle::HeadLifecycle;
 use head_ready::head_lifecycle::HeadCold;
 use head_ready::head_lifecycle::HeadReadiness;
 use head_ready::head_lifecycle::HeadView;
 use head_ready::head_lifecycle::Source;
-use head_view::head_lifecycle::lookup;
+use head_snapshot::head_lifecycle::lookup;
+use head_snapshot::head_lifecycle::viewed;
 
 pub(crate) fn unowned_reason(reason: HeadCold) -> HeadCold
     ensures { λ r. ⌜ r ≡ unownedReason reason ⌝ }
@@ -129,12 +131,23 @@ pub(crate) fn view_unowned(d: Driver, n: u64, view: HeadView) -> Reply
     viewed_by(d, n, view, unowned(view))
 }
 
+pub(crate) fn preparing_head(current: CurrentHead, anchor: ReadAnchor) -> bool
+    ensures { λ r. ⌜ r ≡ preparingAt current anchor ⌝ }
+{
+    match current {
+        CurrentHead::Absent => return false,
+        CurrentHead::Unclaimed(_) => return false,
+        CurrentHead::Preparing(u) => return same_anchor(u.delivery.anchor, anchor),
+        CurrentHead::Settled(_) => return false,
+    }
+}
+
 // Whether a preparation is live at that anchor.
 pub(crate) fn preparing_at(life: HeadLifecycle, anchor: ReadAnchor) -> bool
     ensures { λ r. ⌜ r ≡ preparingAt (life .current) anchor ⌝ }
 {
     let current = life.current;
-    current.preparing_at(anchor)
+    preparing_head(current, anchor)
 }
 
 // One turn of the Rust's loop: park on the live preparation at that anchor, or answer.

@@ -2,19 +2,22 @@
 use Prim.Native.Nat.{ℕ}
 use mathlib.Core.Path.{_≡_, refl, ap, _∙_}
 use Rattle.alike.proofs.Tests.{anchor-same}
-use Rattle.head_current.specs.Heads.{delivery, repeats}
-use Rattle.head_calls.specs.Calls.{deliver, snapshot}
-use Rattle.head_driver.specs.Parts.{viewed, withLife}
-use Rattle.head_calls.specs.Parts.{deliverAs}
-use Rattle.head_life.specs.Deliver.{delivered}
+use Rattle.head_current.specs.Heads.{delivery}
+use Rattle.head_deliver.specs.Repeats.{repeats}
+use Rattle.head_deliver.specs.Deliver.{deliver}
+use Rattle.head_snapshot.specs.Snapshot.{snapshot}
+use Rattle.head_snapshot.specs.Parts.{viewed}
+use Rattle.head_driver.specs.Parts.{withLife}
+use Rattle.head_deliver.specs.Parts.{deliverAs}
+use Rattle.head_deliver.specs.Delivered.{delivered}
 use Rattle.head_life.specs.State.{counted}
 use Rattle.head_step.specs.Dispatch.{dispatch}
-use Rattle.head_step.specs.Inputs.{inputRefusal}
+use Rattle.head_call.specs.Inputs.{inputRefusal}
 use Rattle.head_step.specs.Steps.{step}
-use Rattle.head_view.specs.Snapshot.{generationView, view, viewOf}
+use Rattle.head_snapshot.specs.Views.{generationView, view, viewOf}
 use Rattle.hash.specs.declared.Hash.{Hash}
 use Rattle.head_anchor.specs.declared.storage_memo.ReadAnchor.{ReadAnchor}
-use Rattle.head_current.specs.declared.head_lifecycle.Redelivery.{Redelivery}
+use Rattle.head_deliver.specs.declared.head_lifecycle.Redelivery.{Redelivery}
 use Rattle.head_driver.specs.declared.head_lifecycle.Answer.{Answer}
 use Rattle.head_driver.specs.declared.head_lifecycle.Driver.{Driver}
 use Rattle.head_ready.specs.declared.delta_snapshot.Generation.{Generation}

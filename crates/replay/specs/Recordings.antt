@@ -7,7 +7,7 @@ use lib.Dec.{eqb, leb}
 use lib.ListN.{length, take, drop}
 use Rattle.hash.specs.Logic.{if, both}
 use Rattle.head_count.specs.Counters.{epochOf, seqOf, statsOf, up}
-use Rattle.head_reads.specs.Calls.{free}
+use Rattle.head_driver.specs.New.{free}
 use Rattle.script.specs.Feeds.{lastLeaves, lastPrints, lent, reading}
 use Rattle.text.specs.Places.{here}
 use Rattle.text.specs.Rests.{readNumber}

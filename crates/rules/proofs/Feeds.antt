@@ -6,8 +6,8 @@ use lib.ListN.{drop, length, take}
 use borrow.Author.Tests.{le-ltb}
 use Rattle.alike.specs.Canon.{canon}
 use Rattle.driver.specs.Turns.{sheetAfter, sheetAnswer, turnOf}
-use Rattle.head_count.specs.declared.head_lifecycle.Waiter.{Waiter}
-use Rattle.head_count.specs.declared.head_lifecycle.WaiterSlot.{WaiterSlot}
+use Rattle.head_attempt.specs.declared.head_lifecycle.Waiter.{Waiter}
+use Rattle.head_attempt.specs.declared.head_lifecycle.WaiterSlot.{WaiterSlot}
 use Rattle.script_call.proofs.Back.{sheet-back}
 use Rattle.script_call.specs.Texts.{sheetCallText}
 use Rattle.script_sheet.specs.Sheets.{lifeLines, linesOf, sheetText}

@@ -9,25 +9,31 @@ use Rattle.hash.specs.Logic.{both}
 use Rattle.head_anchor.specs.Anchors.{holds, sameAnchor}
 use Rattle.head_anchor.specs.Links.{classifyLink}
 use Rattle.head_anchor.specs.Lists.{applyPrepared, asPrepared, isLinked, isRead, outcome}
-use Rattle.head_apply.specs.Apply.{apply}
-use Rattle.head_apply.specs.Parts.{applyAs, settleAs}
+use Rattle.head_apply.specs.Apply.{apply, applyAs, settleAs}
 use Rattle.head_count.specs.Counters.{nextEpoch, nextSeq}
-use Rattle.head_current.specs.Heads.{anchorOf, delivery, lastReport, preparingAt, redelivery, repeats, sameDelivery, ticketOf}
-use Rattle.head_moves.specs.Moves.{ownedBy}
-use Rattle.head_calls.specs.Calls.{claim, deliver, release, snapshot}
-use Rattle.head_driver.specs.Parts.{viewed}
-use Rattle.head_calls.specs.Parts.{claimAs, deliverAs}
-use Rattle.head_life.specs.Apply.{planApply}
-use Rattle.head_gate.specs.Gates.{planAt, planHeld, claimGate, claimStartAt}
-use Rattle.head_life.specs.Claim.{claimStart}
+use Rattle.head_current.specs.Heads.{anchorOf, delivery, ticketOf}
+use Rattle.head_reads.specs.Reports.{lastReport}
+use Rattle.head_waits.specs.Parts.{preparingAt, abandonedView, join, resumeAs, unowned, unownedReadiness, unownedReason, viewedBy, waitAs, waiterAt}
+use Rattle.head_deliver.specs.Repeats.{redelivery, repeats, sameDelivery}
+use Rattle.head_release.specs.Owners.{ownedBy}
+use Rattle.head_claim.specs.Claim.{claim}
+use Rattle.head_deliver.specs.Deliver.{deliver}
+use Rattle.head_release.specs.Release.{release}
+use Rattle.head_snapshot.specs.Snapshot.{snapshot}
+use Rattle.head_snapshot.specs.Parts.{viewed}
+use Rattle.head_claim.specs.Parts.{claimAs}
+use Rattle.head_deliver.specs.Parts.{deliverAs}
+use Rattle.head_plan.specs.Plans.{planApply, planAt, planHeld}
+use Rattle.head_claim.specs.Starts.{claimGate, claimStartAt, claimStart}
 use Rattle.head_ready.specs.Generations.{isReady, slotAnchor}
-use Rattle.head_reads.specs.Calls.{completion, heads, link, report, stats}
+use Rattle.head_completion.specs.Completion.{completion}
+use Rattle.head_reads.specs.Calls.{heads, report, stats}
+use Rattle.head_link.specs.Link.{link}
 use Rattle.head_step.proofs.Asked.{asked}
 use Rattle.head_step.specs.Dispatch.{dispatch}
 use Rattle.head_step.specs.Steps.{step}
-use Rattle.head_view.specs.Snapshot.{currentView, generationView, provisionalView, spareReason, spareView, view}
+use Rattle.head_snapshot.specs.Views.{currentView, generationView, provisionalView, spareReason, spareView, view}
 use Rattle.head_waits.specs.Calls.{resume, wait}
-use Rattle.head_waits.specs.Parts.{abandonedView, join, resumeAs, unowned, unownedReadiness, unownedReason, viewedBy, waitAs, waiterAt}
 use Rattle.script_back.specs.Ranges.{ColdFits, Fits, OutcomeFits, ReadinessFits, ReportFits, SlotFits}
 use Rattle.sheet_back.proofs.Ranges.{anchor-range, readiness-range, report-range, skip-range, stats-range}
 use Rattle.hash.specs.declared.Hash.{Hash}
@@ -35,7 +41,7 @@ use Rattle.head_anchor.specs.declared.bal_prefetch.BalSkip.{BalSkip}
 use Rattle.head_anchor.specs.declared.storage_memo.AnchorSlot.{AnchorSlot}
 use Rattle.head_anchor.specs.declared.storage_memo.ReadAnchor.{ReadAnchor}
 use Rattle.head_count.specs.declared.head_lifecycle.Epoch.{Epoch}
-use Rattle.head_count.specs.declared.head_lifecycle.Waiter.{Waiter}
+use Rattle.head_attempt.specs.declared.head_lifecycle.Waiter.{Waiter}
 use Rattle.head_current.specs.declared.head_lifecycle.CurrentHead.{CurrentHead}
 use Rattle.head_current.specs.declared.head_lifecycle.DeliverySlot.{DeliverySlot}
 use Rattle.head_current.specs.declared.head_lifecycle.HeadDelivery.{HeadDelivery}
@@ -44,14 +50,14 @@ use Rattle.head_current.specs.declared.head_lifecycle.UnsettledHead.{UnsettledH
 use Rattle.head_driver.specs.declared.head_lifecycle.Driver.{Driver}
 use Rattle.head_driver.specs.declared.head_lifecycle.Reply.{Reply}
 use Rattle.head_ready.specs.declared.delta_snapshot.GenerationSlot.{GenerationSlot}
-use Rattle.head_gate.specs.declared.head_lifecycle.ApplyPlan.{ApplyPlan}
-use Rattle.head_gate.specs.declared.head_lifecycle.ClaimStart.{ClaimStart}
+use Rattle.head_plan.specs.declared.head_lifecycle.ApplyPlan.{ApplyPlan}
+use Rattle.head_claim.specs.declared.head_lifecycle.ClaimStart.{ClaimStart}
 use Rattle.head_ready.specs.declared.head_lifecycle.HeadCold.{HeadCold}
 use Rattle.head_life.specs.declared.head_lifecycle.HeadLifecycle.{HeadLifecycle}
 use Rattle.head_ready.specs.declared.head_lifecycle.HeadReadiness.{HeadReadiness}
 use Rattle.head_ready.specs.declared.head_lifecycle.HeadView.{HeadView}
 use Rattle.head_ready.specs.declared.head_lifecycle.Source.{Source}
-use Rattle.head_step.specs.declared.head_lifecycle.Call.{Call}
+use Rattle.head_call.specs.declared.head_lifecycle.Call.{Call}
 
 abbrev Replied : Reply → Type 0
 Replied r = AnswerFits (r .answer)

@@ -9,7 +9,7 @@ use lib.Seq.{drop-append-seam}
 use Rattle.alike.proofs.Kept.{holds-of-new}
 use Rattle.alike.specs.Invariant.{Invariant}
 use Rattle.hash.specs.Logic.{if}
-use Rattle.head_reads.specs.Calls.{new}
+use Rattle.head_driver.specs.New.{new}
 use Rattle.script.specs.Scripts.{answered, lines, linesAfter, script}
 use Rattle.script_call.specs.Calls.{call}
 use Rattle.script_call.specs.Texts.{sheetCallText}

@@ -19,7 +19,7 @@ use Rattle.script_call.specs.Ranges.{LineWritable}
 use Rattle.script_call.specs.Texts.{callText, sheetCallText}
 use Rattle.head_driver.specs.declared.head_lifecycle.Answer.{Answer}
 use Rattle.head_driver.specs.declared.head_lifecycle.Driver.{Driver}
-use Rattle.head_step.specs.declared.head_lifecycle.Call.{Call}
+use Rattle.head_call.specs.declared.head_lifecycle.Call.{Call}
 use Rattle.script_call.specs.declared.LineCall.{LineCall}
 use Rattle.rules.specs.Runs.{Bytes, Entry, Further, after, answers, turnAt}
 use Rattle.rules.specs.Statements.{LinesKeep, SameAnswers}

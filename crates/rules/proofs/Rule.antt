@@ -5,7 +5,7 @@ use Rattle.alike.proofs.Kept.{holds-of-new}
 use Rattle.alike.proofs.Rule.{shows-no-more}
 use Rattle.alike.proofs.Shown.{shows-enough}
 use Rattle.alike.specs.Invariant.{Invariant}
-use Rattle.head_reads.specs.Calls.{new}
+use Rattle.head_driver.specs.New.{new}
 use Rattle.sheet_back.proofs.Sheets.{equal-sheets}
 use Rattle.head_driver.specs.declared.head_lifecycle.Driver.{Driver}
 use Rattle.rules.specs.Runs.{Entry, after}

@@ -4,7 +4,7 @@ use mathlib.Core.List.{List, [], _∷_, _++_, map}
 use mathlib.Core.Logic.{_↔_}
 use mathlib.Core.Path.{_≡_}
 use lib.ListN.{length, drop}
-use Rattle.head_reads.specs.Calls.{new}
+use Rattle.head_driver.specs.New.{new}
 use Rattle.script.specs.Scripts.{lines, script}
 use Rattle.text.specs.Ascii.{ascii}
 use Rattle.head_driver.specs.declared.head_lifecycle.Driver.{Driver}

@@ -20,13 +20,13 @@ use Rattle.head_anchor.specs.declared.read_hub.PreparedBal.{PreparedBal}
 use Rattle.head_anchor.specs.declared.storage_memo.BlockHash.{BlockHash}
 use Rattle.head_anchor.specs.declared.storage_memo.ReadAnchor.{ReadAnchor}
 use Rattle.head_count.specs.declared.head_lifecycle.HeadStats.{HeadStats}
-use Rattle.head_count.specs.declared.head_lifecycle.Waiter.{Waiter}
+use Rattle.head_attempt.specs.declared.head_lifecycle.Waiter.{Waiter}
 use Rattle.head_current.specs.declared.head_lifecycle.CurrentHead.{CurrentHead}
 use Rattle.head_current.specs.declared.head_lifecycle.DeliverySlot.{DeliverySlot}
 use Rattle.head_current.specs.declared.head_lifecycle.HeadTicket.{HeadTicket}
 use Rattle.head_driver.specs.declared.head_lifecycle.Driver.{Driver}
 use Rattle.head_ready.specs.declared.delta_snapshot.GenerationSlot.{GenerationSlot}
-use Rattle.head_step.specs.declared.head_lifecycle.Call.{Call}
+use Rattle.head_call.specs.declared.head_lifecycle.Call.{Call}
 use Rattle.script_call.specs.declared.LineCall.{LineCall}
 
 -- a condition: where it applies, the number of the refusal and the anchors that it names

@@ -8,7 +8,7 @@ use Rattle.text.specs.Decimals.{decimal}
 use Rattle.driver.specs.declared.LineAnswer.{LineAnswer}
 use Rattle.head_anchor.specs.declared.storage_memo.ReadAnchor.{ReadAnchor}
 use Rattle.head_driver.specs.declared.head_lifecycle.Answer.{Answer}
-use Rattle.head_gate.specs.declared.head_lifecycle.HeadOutcome.{HeadOutcome}
+use Rattle.head_ready.specs.declared.head_lifecycle.HeadOutcome.{HeadOutcome}
 use Rattle.value_text.specs.declared.page.Page.{Page}
 use Rattle.rules.specs.Refusals.{Refusal}
 

@@ -10,7 +10,7 @@ use lib.ListN.{length, take}
 use lib.Seq.{length-take-le, take-all, take-nil}
 use borrow.Author.Tests.{lt-ltb, ltb-true, ltb-false, ne-eqb}
 use Rattle.hash.specs.Logic.{if}
-use Rattle.head_reads.specs.Calls.{new}
+use Rattle.head_driver.specs.New.{new}
 use Rattle.pending.specs.Kept.{Part, keepByte, keepAll, lineSoFar}
 use Rattle.pending.proofs.Held.{Sound, sound-byte, held-line}
 use Rattle.script_call.specs.Calls.{call}

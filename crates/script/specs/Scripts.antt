@@ -3,7 +3,7 @@ use Prim.Native.Nat.{ℕ}
 use mathlib.Core.List.{List, [], _∷_, _++_}
 use lib.Dec.{eqb}
 use Rattle.hash.specs.Logic.{if}
-use Rattle.head_reads.specs.Calls.{new}
+use Rattle.head_driver.specs.New.{new}
 use Rattle.script_call.specs.Calls.{call}
 use Rattle.script_line.specs.Prints.{leaves, prints}
 use Rattle.head_driver.specs.declared.head_lifecycle.Driver.{Driver}

@@ -6,7 +6,7 @@ ghost use Rattle.text.specs.Writes.{Wrote};
 ghost use Rattle.head_driver.specs.declared.head_lifecycle.Answer.{Answer};
 use head_anchor::read_hub::CarryOutcome;
 use head_anchor::storage_memo::ReadAnchor;
-use head_gate::head_lifecycle::HeadOutcome;
+use head_ready::head_lifecycle::HeadOutcome;
 use script_outcome::outcome::put_outcome;
 use text_put::put::put;
 use value_text::anchor::put_anchor;

@@ -4,7 +4,7 @@ ghost use lib.ListN.{length};
 ghost use Rattle.script_outcome.specs.Texts.{linkText, sourceText, endText};
 ghost use Rattle.text.specs.Writes.{Wrote};
 use head_anchor::read_hub::Link;
-use head_count::head_lifecycle::HeadCompletion;
+use head_attempt::head_lifecycle::HeadCompletion;
 use head_ready::head_lifecycle::Source;
 use text_put::put::put;
 

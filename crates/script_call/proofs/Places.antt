@@ -5,7 +5,7 @@ use mathlib.Core.Bool.{Bool}
 use mathlib.Core.List.{List}
 use lib.ListN.{length}
 use borrow.Author.Tests.{eq-eqb, ne-eqb, lt-ltb, le-ltb}
-use Rattle.head_step.specs.declared.head_lifecycle.Call.{Call}
+use Rattle.head_call.specs.declared.head_lifecycle.Call.{Call}
 use Rattle.text.specs.Ascii.{ascii}
 use Rattle.text.specs.Rests.{Rest, after, wordHere, past, pastWord, atEnd}
 use Rattle.text.specs.Places.{here, Reads}

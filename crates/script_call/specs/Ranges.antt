@@ -1,5 +1,5 @@
 -- The calls that a line can write: each of their numbers, and each word of their hashes, is below 2^64.
-use Rattle.head_step.specs.declared.head_lifecycle.Call.{Call}
+use Rattle.head_call.specs.declared.head_lifecycle.Call.{Call}
 use Rattle.hash_text.specs.Ranges.{HashFits}
 use Rattle.call_value.specs.Ranges.{Fits, AnchorFits, SlotFits, SkipFits}
 use Rattle.script_call.specs.declared.LineCall.{LineCall}

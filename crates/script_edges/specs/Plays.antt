@@ -2,7 +2,7 @@
 use Prim.Native.Nat.{ℕ, _<_, _≤_}
 use mathlib.Core.List.{[], _∷_}
 use mathlib.Core.Path.{_≡_}
-use Rattle.head_reads.specs.Calls.{new}
+use Rattle.head_driver.specs.New.{new}
 use Rattle.script.specs.Feeds.{Reading, allTaken}
 use Rattle.script.specs.declared.Fed.{Fed}
 

@@ -7,7 +7,7 @@ use Rattle.alike.specs.Canon.{shownHead}
 use Rattle.alike.specs.Invariant.{OpenOrAbandoned, WhenUnclaimed}
 use Rattle.alike.specs.Ranges as A
 use Rattle.head_count.specs.Counters.{seqOf}
-use Rattle.head_life.specs.Deliver.{deliveryOf}
+use Rattle.head_deliver.specs.Delivered.{deliveryOf}
 use Rattle.script_back.proofs.Anchors.{anchor-back, anchor-form, hash-on-back, slot-back, spaced-back, spaced-run, stats-back}
 use Rattle.script_back.proofs.Keywords.{open-miss, word-hit, word-miss}
 use Rattle.script_back.proofs.Outcomes.{readiness-back, report-back}
@@ -27,7 +27,7 @@ use Rattle.text.specs.Same.{sameText}
 use Rattle.text.specs.Words.{inWord, run}
 use Rattle.head_anchor.specs.declared.storage_memo.AnchorSlot.{AnchorSlot}
 use Rattle.head_count.specs.declared.head_lifecycle.Epoch.{Epoch}
-use Rattle.head_count.specs.declared.head_lifecycle.HeadCompletion.{HeadCompletion}
+use Rattle.head_attempt.specs.declared.head_lifecycle.HeadCompletion.{HeadCompletion}
 use Rattle.head_count.specs.declared.head_lifecycle.HeadStats.{HeadStats}
 use Rattle.head_current.specs.declared.head_lifecycle.CurrentHead.{CurrentHead}
 use Rattle.head_current.specs.declared.head_lifecycle.HeadDelivery.{HeadDelivery}

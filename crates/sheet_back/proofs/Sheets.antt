@@ -6,8 +6,8 @@ use mathlib.Core.Path.{_≡_, refl, ap, sym, _∙_}
 use lib.ListN.{length}
 use Rattle.alike.specs.Canon.{canon, shownLife, shownSuperseded, shownWaiters, shownWaiter}
 use Rattle.alike.specs.Invariant.{Invariant}
-use Rattle.head_count.specs.declared.head_lifecycle.Waiter.{Waiter}
-use Rattle.head_count.specs.declared.head_lifecycle.WaiterSlot.{WaiterSlot}
+use Rattle.head_attempt.specs.declared.head_lifecycle.Waiter.{Waiter}
+use Rattle.head_attempt.specs.declared.head_lifecycle.WaiterSlot.{WaiterSlot}
 use Rattle.script_sheet.proofs.Shown.{life-shown, sheet-shown}
 use Rattle.script_sheet.specs.Sheets.{lifeLines, sheetText}
 use Rattle.sheet_lines.specs.Lines.{countLine, currentLine, installedLine, previousLine, supersededLine, waiterLines}

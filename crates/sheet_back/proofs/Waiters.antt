@@ -19,8 +19,8 @@ use Rattle.text.specs.Rests.{Took, after, at, numberGot, past, pastWord, readNu
 use Rattle.text.specs.Same.{sameText}
 use Rattle.text.specs.Words.{inWord, run}
 use Rattle.head_anchor.specs.declared.storage_memo.ReadAnchor.{ReadAnchor}
-use Rattle.head_count.specs.declared.head_lifecycle.Waiter.{Waiter}
-use Rattle.head_count.specs.declared.head_lifecycle.WaiterSlot.{WaiterSlot}
+use Rattle.head_attempt.specs.declared.head_lifecycle.Waiter.{Waiter}
+use Rattle.head_attempt.specs.declared.head_lifecycle.WaiterSlot.{WaiterSlot}
 use Rattle.value_text.specs.declared.page.Page.{Page}
 use Rattle.sheet_back.specs.Waiters.{going, names, readWaiter, readWaiterAt, readWaiters, waiterNamed}
 use Rattle.sheet_back.proofs.Ranges.{anchor-range}

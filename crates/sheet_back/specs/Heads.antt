@@ -3,9 +3,9 @@ use Prim.Native.Nat.{ℕ}
 use mathlib.Core.List.{List}
 use Rattle.hash.specs.Logic.{if}
 use Rattle.head_anchor.specs.Words.{Word}
-use Rattle.head_count.specs.Attempts.{minted, settled}
+use Rattle.head_attempt.specs.Attempts.{minted, settled}
 use Rattle.head_count.specs.Counters.{epochOf, seqOf}
-use Rattle.head_life.specs.Deliver.{deliveryOf}
+use Rattle.head_deliver.specs.Delivered.{deliveryOf}
 use Rattle.script_back.specs.Outcomes.{readReadiness, readReport}
 use Rattle.script_back.specs.Reads.{got, orWord, readAnchor, readHashOn, readSlot, readStats, spacedNumber, then}
 use Rattle.value_text.specs.Words.{wordText}
@@ -14,7 +14,7 @@ use Rattle.text.specs.Rests.{Rest, Took, after, pastWord, stopped, wordHere}
 use Rattle.text.specs.Same.{sameText}
 use Rattle.head_anchor.specs.declared.storage_memo.AnchorSlot.{AnchorSlot}
 use Rattle.head_count.specs.declared.head_lifecycle.Epoch.{Epoch}
-use Rattle.head_count.specs.declared.head_lifecycle.HeadCompletion.{HeadCompletion}
+use Rattle.head_attempt.specs.declared.head_lifecycle.HeadCompletion.{HeadCompletion}
 use Rattle.head_count.specs.declared.head_lifecycle.HeadStats.{HeadStats}
 use Rattle.head_current.specs.declared.head_lifecycle.CurrentHead.{CurrentHead}
 use Rattle.head_current.specs.declared.head_lifecycle.HeadDelivery.{HeadDelivery}

@@ -4,7 +4,7 @@ ghost use lib.ListN.{length};
 ghost use Rattle.sheet_lines.specs.Lines.{poseText, deliveryText, unsettledText, currentLine, supersededLine};
 ghost use Rattle.text.specs.Writes.{Wrote};
 use head_anchor::storage_memo::AnchorSlot;
-use head_count::head_lifecycle::HeadCompletion;
+use head_attempt::head_lifecycle::HeadCompletion;
 use head_current::head_lifecycle::CurrentHead;
 use head_current::head_lifecycle::HeadDelivery;
 use head_current::head_lifecycle::SettledHead;

@@ -1,5 +1,5 @@
 -- `head_apply::head_lifecycle::admit` meets its contract: on each way through its code the result is what the definition gives.
-use Rattle.head_apply.specs.Parts.{applyAs}
+use Rattle.head_apply.specs.Apply.{applyAs}
 use Rattle.head_apply.proofs.head_lifecycle.admit.Statement.{statement}
 use Rattle.head_apply.proofs.head_lifecycle.admit.Tie as tie
 

@@ -1,5 +1,5 @@
 -- `head_apply::head_lifecycle::apply_as` meets its contract: on each way through its code the result is what the definition gives.
-use Rattle.head_apply.specs.Parts.{applyAs}
+use Rattle.head_apply.specs.Apply.{applyAs}
 use Rattle.head_apply.proofs.head_lifecycle.apply_as.Statement.{statement}
 use Rattle.head_apply.proofs.head_lifecycle.apply_as.Tie as tie
 

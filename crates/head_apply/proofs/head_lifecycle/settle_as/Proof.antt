@@ -1,5 +1,5 @@
 -- `head_apply::head_lifecycle::settle_as` meets its contract: on each way through its code the result is what the definition gives.
-use Rattle.head_apply.specs.Parts.{settleAs}
+use Rattle.head_apply.specs.Apply.{settleAs}
 use Rattle.head_apply.proofs.head_lifecycle.settle_as.Statement.{statement}
 use Rattle.head_apply.proofs.head_lifecycle.settle_as.Tie as tie
 

@@ -5,9 +5,9 @@ use mathlib.Core.Path.{_≡_, refl, sym, ap}
 use mathlib.Core.List.{List}
 use lib.ListN.{length, List·getD-eq-default}
 use borrow.Author.Needs.{needs}
-use Rattle.head_count.specs.Waiters.{slotOf}
-use Rattle.head_count.specs.declared.head_lifecycle.Waiter.{Waiter}
-use Rattle.head_count.specs.declared.head_lifecycle.WaiterSlot.{WaiterSlot}
+use Rattle.head_attempt.specs.Waiters.{slotOf}
+use Rattle.head_attempt.specs.declared.head_lifecycle.Waiter.{Waiter}
+use Rattle.head_attempt.specs.declared.head_lifecycle.WaiterSlot.{WaiterSlot}
 use Rattle.head_waits.specs.Parts.{waiterAt}
 use Rattle.head_waits.proofs.head_lifecycle.waiter_at.Statement.{statement}
 use Rattle.head_waits.proofs.head_lifecycle.waiter_at.Tie as tie

@@ -1,0 +1,26 @@
+-- Document 01, "Turned away by the input": 2, list and anchor disagree on `no-hash`, is tested by `apply` only; 3, waiter number above 15, by `wait` and `resume` only. (1 and 4 are
+-- of lines and of the sheet's buffer.)
+use Prim.Native.Nat.{ℕ}
+use Rattle.head_call.specs.Tests.{listRefusal, waiterRefusal}
+use Rattle.head_call.specs.declared.head_lifecycle.Call.{Call}
+use Rattle.head_call.specs.declared.head_lifecycle.InputRefusal.{InputRefusal}
+
+-- 0 where the input is taken
+unfoldable pub inputNumber : InputRefusal → ℕ
+inputNumber InputRefusal.Nothing = 0
+inputNumber InputRefusal.ListAtOdds = 2
+inputNumber InputRefusal.WaiterOutOfRange = 3
+
+unfoldable pub inputRefusal : Call → InputRefusal
+inputRefusal (Call.Deliver a p cold) = InputRefusal.Nothing
+inputRefusal (Call.Claim ticket) = InputRefusal.Nothing
+inputRefusal (Call.Release owner) = InputRefusal.Nothing
+inputRefusal (Call.Apply ticket list handle carried made) = listRefusal list
+inputRefusal (Call.Snapshot a spare) = InputRefusal.Nothing
+inputRefusal (Call.Wait n a spare) = waiterRefusal n
+inputRefusal (Call.Resume n spare) = waiterRefusal n
+inputRefusal (Call.Completion a) = InputRefusal.Nothing
+inputRefusal (Call.Link parent child parent-hash) = InputRefusal.Nothing
+inputRefusal Call.Report = InputRefusal.Nothing
+inputRefusal Call.Stats = InputRefusal.Nothing
+inputRefusal Call.Heads = InputRefusal.Nothing

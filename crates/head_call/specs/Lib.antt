@@ -1,0 +1,3 @@
+-- Document 01, "Turned away by the input". Inputs are the paper's; Tests are what they are made of.
+pub mod Tests
+pub mod Inputs

@@ -1,0 +1,13 @@
+-- The two tests of a call's input.
+use Prim.Native.Nat.{ℕ}
+use lib.Dec.{ltb}
+use Rattle.hash.specs.Logic.{if}
+use Rattle.head_anchor.specs.Lists.{asPrepared}
+use Rattle.head_anchor.specs.declared.read_hub.PreparedBal.{PreparedBal}
+use Rattle.head_call.specs.declared.head_lifecycle.InputRefusal.{InputRefusal}
+
+unfoldable pub listRefusal : PreparedBal → InputRefusal
+listRefusal list = if (asPrepared list) InputRefusal.Nothing InputRefusal.ListAtOdds
+
+unfoldable pub waiterRefusal : ℕ → InputRefusal
+waiterRefusal n = if (ltb n 16) InputRefusal.Nothing InputRefusal.WaiterOutOfRange

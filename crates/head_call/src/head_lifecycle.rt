@@ -1,0 +1,88 @@
+// Every call on a driver as a value. The Rust has a method for each.
+ghost use mathlib.Core.Path.{_≡_};
+ghost use Rattle.head_call.specs.Inputs.{inputNumber, inputRefusal};
+ghost use Rattle.head_call.specs.Tests.{listRefusal, waiterRefusal};
+use hash::Hash;
+use head_anchor::read_hub::Link;
+use head_anchor::read_hub::PreparedBal;
+use head_anchor::read_hub::as_prepared;
+use head_anchor::storage_memo::AnchorSlot;
+use head_anchor::storage_memo::ReadAnchor;
+use head_current::head_lifecycle::HeadTicket;
+use head_current::head_lifecycle::PrepareClaim;
+
+// The calls in demand 3's order. The sheet, which changes nothing, is a line's and not a call's here.
+pub enum Call {
+    Deliver(ReadAnchor, Hash, u64),
+    Claim(HeadTicket),
+    Release(PrepareClaim),
+    Apply(HeadTicket, PreparedBal, u64, u64, u64),
+    Snapshot(ReadAnchor, u64),
+    Wait(u64, ReadAnchor, u64),
+    Resume(u64, u64),
+    Completion(ReadAnchor),
+    Link(AnchorSlot, ReadAnchor, Hash),
+    Report,
+    Stats,
+    Heads,
+}
+
+// Why a call is turned away by its input alone.
+pub enum InputRefusal {
+    Nothing,
+    ListAtOdds,
+    WaiterOutOfRange,
+}
+
+impl InputRefusal {
+    // The refusal's number, or 0 where the input is taken.
+    pub fn number(self) -> u64
+        ensures { λ r. ⌜ r ≡ inputNumber self ⌝ }
+    {
+        match self {
+            InputRefusal::Nothing => 0,
+            InputRefusal::ListAtOdds => 2,
+            InputRefusal::WaiterOutOfRange => 3,
+        }
+    }
+}
+
+pub(crate) fn list_refusal(list: PreparedBal) -> InputRefusal
+    ensures { λ r. ⌜ r ≡ listRefusal list ⌝ }
+{
+    if as_prepared(list) {
+        InputRefusal::Nothing
+    } else {
+        InputRefusal::ListAtOdds
+    }
+}
+
+pub(crate) fn waiter_refusal(n: u64) -> InputRefusal
+    ensures { λ r. ⌜ r ≡ waiterRefusal n ⌝ }
+{
+    if n < 16 {
+        InputRefusal::Nothing
+    } else {
+        InputRefusal::WaiterOutOfRange
+    }
+}
+
+// Asked before the state is looked at.
+pub fn input_refusal(call: Call) -> InputRefusal
+    ensures { λ r. ⌜ r ≡ inputRefusal call ⌝ }
+{
+    match call {
+        Call::Deliver(_, _, _) => return InputRefusal::Nothing,
+        Call::Claim(_) => return InputRefusal::Nothing,
+        Call::Release(_) => return InputRefusal::Nothing,
+        Call::Apply(_, list, _, _, _) => return list_refusal(list),
+        Call::Snapshot(_, _) => return InputRefusal::Nothing,
+        Call::Wait(n, _, _) => return waiter_refusal(n),
+        Call::Resume(n, _) => return waiter_refusal(n),
+        Call::Completion(_) => return InputRefusal::Nothing,
+        Call::Link(_, _, _) => return InputRefusal::Nothing,
+        Call::Report => return InputRefusal::Nothing,
+        Call::Stats => return InputRefusal::Nothing,
+        Call::Heads => return InputRefusal::Nothing,
+    }
+}

@@ -1,0 +1,129 @@
+// From head_lifecycle.rs: `ClaimStart`, `HeadLifecycle::claim`, `CurrentHead::claimed`, and the claim of `advance_with_relevance`.
+ghost use mathlib.Core.Path.{_≡_};
+ghost use Rattle.head_claim.specs.Claim.{claim};
+ghost use Rattle.head_claim.specs.Claimed.{claimed, claimedHead};
+ghost use Rattle.head_claim.specs.Parts.{claimAs};
+ghost use Rattle.head_claim.specs.Starts.{claimGate, claimStart, claimStartAt};
+ghost use Rattle.head_driver.specs.Answers.{Replies};
+use head_anchor::storage_memo::AnchorSlot;
+use head_anchor::storage_memo::holds;
+use head_attempt::head_lifecycle::ClaimAttempt;
+use head_count::head_lifecycle::Epoch;
+use head_current::head_lifecycle::CurrentHead;
+use head_current::head_lifecycle::HeadDelivery;
+use head_current::head_lifecycle::HeadTicket;
+use head_current::head_lifecycle::UnsettledHead;
+use head_driver::head_lifecycle::Answer;
+use head_driver::head_lifecycle::Driver;
+use head_driver::head_lifecycle::Reply;
+use head_driver::head_lifecycle::answered;
+use head_driver::head_lifecycle::with_life;
+use head_life::head_lifecycle::HeadLifecycle;
+use head_ready::head_lifecycle::HeadOutcome;
+
+pub enum ClaimStart {
+    Claimed(Epoch),
+    Refused(HeadOutcome),
+}
+
+// What a claim of a head with that delivery starts: `next` where the ticket is the head's and the head is not installed.
+pub(crate) fn claim_gate(
+    installed: AnchorSlot,
+    held: HeadDelivery,
+    ticket: HeadTicket,
+    next: ClaimStart,
+) -> ClaimStart
+    ensures { λ r. ⌜ r ≡ claimGate installed held ticket next ⌝ }
+{
+    if held.has_ticket(ticket) {
+        if holds(installed, ticket.anchor) {
+            return ClaimStart::Refused(HeadOutcome::AlreadySettled);
+        }
+        return next;
+    }
+    let anchor = held.anchor;
+    ClaimStart::Refused(HeadOutcome::Superseded(anchor))
+}
+
+pub(crate) fn claim_start_at(
+    installed: AnchorSlot,
+    epoch: Epoch,
+    current: CurrentHead,
+    ticket: HeadTicket,
+) -> ClaimStart
+    ensures { λ r. ⌜ r ≡ claimStartAt installed epoch current ticket ⌝ }
+{
+    match current {
+        CurrentHead::Absent => {
+            let anchor = ticket.anchor;
+            return ClaimStart::Refused(HeadOutcome::Superseded(anchor));
+        }
+        CurrentHead::Unclaimed(u) => return claim_gate(
+            installed,
+            u.delivery,
+            ticket,
+            ClaimStart::Claimed(epoch.next()),
+        ),
+        CurrentHead::Preparing(u) => return claim_gate(
+            installed,
+            u.delivery,
+            ticket,
+            ClaimStart::Refused(HeadOutcome::InFlight),
+        ),
+        CurrentHead::Settled(s) => return claim_gate(
+            installed,
+            s.delivery,
+            ticket,
+            ClaimStart::Refused(HeadOutcome::AlreadySettled),
+        ),
+    }
+}
+
+// What a claim would start; `claimed` then takes it.
+pub(crate) fn claim_start(life: HeadLifecycle, ticket: HeadTicket) -> ClaimStart
+    ensures { λ r. ⌜ r ≡ claimStart life ticket ⌝ }
+{
+    let current = life.current;
+    let installed = life.installed;
+    claim_start_at(installed.anchor(), life.claim_epoch, current, ticket)
+}
+
+pub(crate) fn claim_unsettled(u: UnsettledHead, epoch: Epoch) -> CurrentHead
+    ensures { λ r. ⌜ r ≡ claimedHead (CurrentHead.Unclaimed u) epoch ⌝ }
+{
+    let attempt = ClaimAttempt::minted(epoch);
+    CurrentHead::Preparing(UnsettledHead { attempt, ..u })
+}
+
+pub(crate) fn claimed_head(current: CurrentHead, epoch: Epoch) -> CurrentHead
+    ensures { λ r. ⌜ r ≡ claimedHead current epoch ⌝ }
+{
+    match current {
+        CurrentHead::Absent => return current,
+        CurrentHead::Unclaimed(u) => return claim_unsettled(u, epoch),
+        CurrentHead::Preparing(_) => return current,
+        CurrentHead::Settled(_) => return current,
+    }
+}
+
+pub(crate) fn claimed(life: HeadLifecycle, epoch: Epoch) -> HeadLifecycle
+    ensures { λ r. ⌜ r ≡ claimed life epoch ⌝ }
+{
+    let old = life.current;
+    life.with_head(claimed_head(old, epoch), epoch)
+}
+
+pub(crate) fn claim_taken(d: Driver, epoch: Epoch) -> Reply
+    ensures { λ r. ⌜ r ≡ claimAs d (ClaimStart.Claimed epoch) ⌝ }
+{
+    answered(with_life(d, claimed(d.life, epoch)), Answer::Claimed(epoch))
+}
+
+pub fn claim(d: Driver, ticket: HeadTicket) -> Reply
+    ensures { λ r. ⌜ Replies r (claim d ticket) ⌝ }
+{
+    match claim_start(d.life, ticket) {
+        ClaimStart::Claimed(epoch) => return claim_taken(d, epoch),
+        ClaimStart::Refused(outcome) => return answered(d, Answer::Outcome(outcome)),
+    }
+}

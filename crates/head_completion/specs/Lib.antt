@@ -1,0 +1,3 @@
+-- Document 01, "Lines": `completion`. All of it is the paper's.
+pub mod Ends
+pub mod Completion

@@ -1,0 +1,10 @@
+-- `head_driver::head_lifecycle::new` meets its contract: on each way through its code the result is what the definition gives.
+use Rattle.head_driver.specs.New.{new}
+use Rattle.head_driver.proofs.head_lifecycle.new.Statement.{statement}
+use Rattle.head_driver.proofs.head_lifecycle.new.Tie as tie
+
+pub new-spec : {M : Type 1} → statement M
+unfolding new
+new-spec = tie.close (tie.spec
+    (λ c κs. tt)
+    (λ c. rw (← c .new .ensures)))

@@ -1,0 +1,13 @@
+-- Document 01, "Lines": the call link on a driver, which touches no state. The Rust: `classify_link`, of read_hub.rs.
+use Rattle.head_anchor.specs.Links.{classifyLink}
+use Rattle.head_driver.specs.Parts.{replyOf}
+use Rattle.hash.specs.declared.Hash.{Hash}
+use Rattle.head_anchor.specs.declared.storage_memo.AnchorSlot.{AnchorSlot}
+use Rattle.head_anchor.specs.declared.storage_memo.ReadAnchor.{ReadAnchor}
+use Rattle.head_driver.specs.declared.head_lifecycle.Answer.{Answer}
+use Rattle.head_driver.specs.declared.head_lifecycle.Driver.{Driver}
+use Rattle.head_driver.specs.declared.head_lifecycle.Reply.{Reply}
+
+-- `(link WORD)`
+unfoldable pub link : Driver → AnchorSlot → ReadAnchor → Hash → Reply
+link d parent child parent-hash = replyOf d (Answer.Link (classifyLink parent child parent-hash))

@@ -1,0 +1,18 @@
+// `classify_link`, of read_hub.rs, as a call on a driver, which it leaves as it is.
+ghost use Rattle.head_driver.specs.Answers.{Replies};
+ghost use Rattle.head_link.specs.Link.{link};
+use hash::Hash;
+use head_anchor::read_hub::Link;
+use head_anchor::read_hub::classify_link;
+use head_anchor::storage_memo::AnchorSlot;
+use head_anchor::storage_memo::ReadAnchor;
+use head_driver::head_lifecycle::Answer;
+use head_driver::head_lifecycle::Driver;
+use head_driver::head_lifecycle::Reply;
+use head_driver::head_lifecycle::answered;
+
+pub fn link(d: Driver, parent: AnchorSlot, child: ReadAnchor, parent_hash: Hash) -> Reply
+    ensures { λ r. ⌜ Replies r (link d parent child «parent_hash») ⌝ }
+{
+    answered(d, Answer::Link(classify_link(parent, child, parent_hash)))
+}

@@ -1,0 +1,15 @@
+use Rattle.head_reads.specs.Reports.{lastReport}
+use Rattle.head_reads.proofs.head_lifecycle.last_report.Statement.{statement}
+use Rattle.head_reads.proofs.head_lifecycle.last_report.Tie as tie
+
+pub last-report-spec : {M : Type 1} → statement M
+unfolding lastReport
+last-report-spec = tie.close (tie.spec
+    (λ c. c .match .keys1)
+    (λ c. rw (c .enum-told .given .1))
+    (λ c. c .match .keys2)
+    (λ c. rw (c .enum-told2 .given .1))
+    (λ c. c .match .keys3)
+    (λ c. rw (c .enum-told3 .given .1))
+    (λ c. c .match .keys4)
+    (λ c. rw (c .before .current .given .1)))

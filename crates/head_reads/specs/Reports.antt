@@ -1,0 +1,10 @@
+-- Document 01, "Lines": the report that `report` answers. The Rust: `CurrentHead::report`, of head_lifecycle.rs.
+use Rattle.head_current.specs.declared.head_lifecycle.CurrentHead.{CurrentHead}
+use Rattle.head_current.specs.declared.head_lifecycle.LastReport.{LastReport}
+
+-- what the current head's own apply gave, else none: `CurrentHead::report`
+unfoldable pub lastReport : CurrentHead → LastReport
+lastReport CurrentHead.Absent = LastReport.Nothing
+lastReport (CurrentHead.Unclaimed u) = LastReport.Nothing
+lastReport (CurrentHead.Preparing u) = LastReport.Nothing
+lastReport (CurrentHead.Settled s) = s .report

@@ -1,0 +1,13 @@
+use Rattle.head_settle.specs.Settles.{settledHead}
+use Rattle.head_settle.proofs.head_lifecycle.settle_unsettled.Statement.{statement}
+use Rattle.head_settle.proofs.head_lifecycle.settle_unsettled.Tie as tie
+
+pub settle-unsettled-spec : {M : Type 1} → statement M
+unfolding settledHead
+settle-unsettled-spec = tie.close (tie.spec
+    (λ c κs. tt)
+    (λ c κs. tt)
+    (λ c κs. tt)
+    (λ c. rw (← c .before .before .before .abandoned .ensures, c .before .before .if1 .taken, ← c .before .settled .ensures, ← c .settle-with .ensures))
+    (λ c κs. tt)
+    (λ c. rw (← c .before .before .abandoned .ensures, c .before .if1 .left, ← c .settle-open .ensures)))

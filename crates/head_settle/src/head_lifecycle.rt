@@ -1,0 +1,135 @@
+// From head_lifecycle.rs: `HeadLifecycle::record_settle` and `settle_current`, `CurrentHead::publish_settle` and `settled`.
+ghost use mathlib.Core.Path.{_≡_};
+ghost use Rattle.head_anchor.specs.Lists.{outcome};
+ghost use Rattle.head_attempt.specs.Attempts.{publish};
+ghost use Rattle.head_current.specs.Heads.{delivery};
+ghost use Rattle.head_current.specs.Parts.{settledOf};
+ghost use Rattle.head_settle.specs.Settles.{abandonment, settle, settledHead, settlingEpoch};
+use head_anchor::read_hub::CarryOutcome;
+use head_anchor::storage_memo::ReadAnchor;
+use head_attempt::head_lifecycle::ClaimAttempt;
+use head_attempt::head_lifecycle::HeadCompletion;
+use head_count::head_lifecycle::Counter;
+use head_count::head_lifecycle::Epoch;
+use head_current::head_lifecycle::CurrentHead;
+use head_current::head_lifecycle::HeadDelivery;
+use head_current::head_lifecycle::LastReport;
+use head_current::head_lifecycle::SettledHead;
+use head_current::head_lifecycle::UnsettledHead;
+use head_life::head_lifecycle::HeadLifecycle;
+use head_ready::delta_snapshot::Generation;
+use head_ready::delta_snapshot::GenerationSlot;
+use head_ready::head_lifecycle::settled_readiness;
+
+// Whether the attempt has ended abandoned, so that a settle needs a new one.
+pub(crate) fn abandoned(u: UnsettledHead) -> bool
+    ensures { λ r. ⌜ r ≡ abandonment u ⌝ }
+{
+    let attempt = u.attempt;
+    let end = attempt.end;
+    match end {
+        HeadCompletion::Open => false,
+        HeadCompletion::Settled => false,
+        HeadCompletion::Superseded => false,
+        HeadCompletion::Abandoned => true,
+    }
+}
+
+pub(crate) fn unsettled_epoch(u: UnsettledHead, epoch: Epoch) -> Epoch
+    ensures { λ r. ⌜ r ≡ settlingEpoch (CurrentHead.Unclaimed u) epoch ⌝ }
+{
+    if abandoned(u) {
+        return epoch.next();
+    }
+    epoch
+}
+
+pub(crate) fn settle_with(
+    delivery: HeadDelivery,
+    report: LastReport,
+    attempt: ClaimAttempt,
+) -> CurrentHead
+    ensures { λ r. ⌜ r ≡ CurrentHead.Settled (settledOf delivery report attempt) ⌝ }
+{
+    CurrentHead::Settled(SettledHead {
+        delivery,
+        report,
+        attempt,
+    })
+}
+
+// The attempt ends settled, if it has not ended.
+pub(crate) fn settle_open(
+    delivery: HeadDelivery,
+    report: LastReport,
+    attempt: ClaimAttempt,
+) -> CurrentHead
+    ensures { λ r. ⌜ r ≡ CurrentHead.Settled (settledOf delivery report (publish attempt HeadCompletion.Settled)) ⌝ }
+{
+    settle_with(delivery, report, attempt.publish(HeadCompletion::Settled))
+}
+
+pub(crate) fn settle_unsettled(u: UnsettledHead, epoch: Epoch, report: LastReport) -> CurrentHead
+    ensures { λ r. ⌜ r ≡ settledHead (CurrentHead.Unclaimed u) epoch report ⌝ }
+{
+    if abandoned(u) {
+        return settle_with(u.delivery, report, ClaimAttempt::settled(epoch));
+    }
+    settle_open(u.delivery, report, u.attempt)
+}
+
+// The epoch counter after a settle: an abandoned attempt's end is not rewritten, so the settle takes a new epoch.
+pub(crate) fn settling_epoch(current: CurrentHead, epoch: Epoch) -> Epoch
+    ensures { λ r. ⌜ r ≡ settlingEpoch current epoch ⌝ }
+{
+    match current {
+        CurrentHead::Absent => return epoch,
+        CurrentHead::Unclaimed(u) => return unsettled_epoch(u, epoch),
+        CurrentHead::Preparing(_) => return epoch,
+        CurrentHead::Settled(_) => return epoch,
+    }
+}
+
+// `epoch` is the epoch counter after the settle.
+pub(crate) fn settled_head(current: CurrentHead, epoch: Epoch, report: LastReport) -> CurrentHead
+    ensures { λ r. ⌜ r ≡ settledHead current epoch report ⌝ }
+{
+    match current {
+        CurrentHead::Absent => return current,
+        CurrentHead::Unclaimed(u) => return settle_unsettled(u, epoch, report),
+        CurrentHead::Preparing(u) => return settle_open(u.delivery, report, u.attempt),
+        CurrentHead::Settled(s) => return settle_open(s.delivery, report, s.attempt),
+    }
+}
+
+// The Rust's `record_settle` and `settle_current`: an admitted apply at that anchor, with the host's numbers for its hub and its report.
+pub fn settle(
+    life: HeadLifecycle,
+    anchor: ReadAnchor,
+    outcome: CarryOutcome,
+    handle: u64,
+    report: u64,
+) -> HeadLifecycle
+    ensures { λ r. ⌜ r ≡ settle life anchor outcome handle report ⌝ }
+{
+    let old = life.current;
+    let prior = life.installed;
+    let claim_epoch = settling_epoch(old, life.claim_epoch);
+    let current = settled_head(old, claim_epoch, LastReport::Made(outcome, report));
+    let readiness = settled_readiness(outcome);
+    let installed = GenerationSlot::Held(Generation {
+        anchor,
+        handle,
+        readiness,
+    });
+    let previous = prior.previous_after(outcome);
+    let stats = life.stats.raise(Counter::Settled);
+    HeadLifecycle {
+        current,
+        installed,
+        previous,
+        claim_epoch,
+        stats,
+        ..life
+    }
+}
