@@ -1,5 +1,4 @@
 -- Heads with a part put in, for the definitions of the calls that move them.
-use Rattle.head_current.specs.Heads.{delivery}
 use Rattle.head_attempt.specs.declared.head_lifecycle.ClaimAttempt.{ClaimAttempt}
 use Rattle.head_current.specs.declared.head_lifecycle.HeadDelivery.{HeadDelivery}
 use Rattle.head_current.specs.declared.head_lifecycle.LastReport.{LastReport}

@@ -1,2 +1,2 @@
--- What the printing functions answer.
+-- What the program's own functions answer.
 pub mod Shown

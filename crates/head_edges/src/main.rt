@@ -1,417 +1,54 @@
 // Plays document 01's edges E1 to E10 and E12 on typed calls and prints each answer as document 01 writes it.
 ghost use mathlib.Core.Path.{_≡_};
-ghost use Rattle.head_anchor.specs.Lists.{hasHash, isLinked, isRead};
-ghost use Rattle.head_driver.specs.Answers.{outcomeSaid, said};
-ghost use Rattle.head_ready.specs.Generations.{isReady};
+ghost use Rattle.head_driver.specs.Answers.{said};
+ghost use Rattle.head_edges.specs.Shown.{lengthOf};
 ghost use Rattle.head_step.specs.Steps.{step};
-ghost use Rattle.head_edges.specs.Shown.{isAt, isCarried, isMade, isOpen, isInstalled};
 use hash::Hash;
 use head_anchor::bal_prefetch::BalSkip;
-use head_anchor::read_hub::CarryOutcome;
-use head_anchor::read_hub::Link;
 use head_anchor::read_hub::PreparedBal;
 use head_anchor::storage_memo::AnchorSlot;
 use head_anchor::storage_memo::BlockHash;
 use head_anchor::storage_memo::ReadAnchor;
-use head_attempt::head_lifecycle::HeadCompletion;
 use head_call::head_lifecycle::Call;
 use head_count::head_lifecycle::Epoch;
-use head_count::head_lifecycle::HeadStats;
 use head_count::head_lifecycle::Seq;
 use head_current::head_lifecycle::HeadTicket;
-use head_current::head_lifecycle::LastReport;
 use head_current::head_lifecycle::PrepareClaim;
 use head_driver::head_lifecycle::Answer;
 use head_driver::head_lifecycle::Driver;
 use head_driver::head_lifecycle::new;
-use head_ready::head_lifecycle::HeadCold;
-use head_ready::head_lifecycle::HeadOutcome;
-use head_ready::head_lifecycle::HeadReadiness;
-use head_ready::head_lifecycle::HeadView;
-use head_ready::head_lifecycle::Source;
 use head_step::head_lifecycle::step;
 use libc::STDOUT_FILENO;
+use script_answer::put_answer;
+use script_value::buffer::Written;
 
-// Each of these answers a part of what it writes, since no contract can speak of what is written.
-fn show_number(n: u64) -> u64
+fn length_of(written: Written) -> usize
+    ensures { λ r. ⌜ r ≡ lengthOf written ⌝ }
+{
+    match written {
+        Written::TooShort => 0,
+        Written::Bytes(n) => n,
+    }
+}
+
+// Writes the first bytes of a line and gives their number, since no contract can speak of what is written.
+fn write_front(line: &[u8], n: usize) -> usize
     ensures { λ r. ⌜ r ≡ n ⌝ }
 {
-    io::write_all(STDOUT_FILENO, b" ");
-    io::print_decimal(STDOUT_FILENO, n);
+    if n <= line.len() {
+        io::write_all(STDOUT_FILENO, &line[..n]);
+    }
     n
 }
 
-fn show_hash(hash: BlockHash) -> bool
-    ensures { λ r. ⌜ r ≡ hasHash hash ⌝ }
-{
-    match hash {
-        BlockHash::Unknown => {
-            io::write_all(STDOUT_FILENO, b" none)");
-            false
-        }
-        BlockHash::Known(h) => {
-            io::write_all(STDOUT_FILENO, b" ");
-            io::print_hex(STDOUT_FILENO, h.w0, 16);
-            io::print_hex(STDOUT_FILENO, h.w1, 16);
-            io::print_hex(STDOUT_FILENO, h.w2, 16);
-            io::print_hex(STDOUT_FILENO, h.w3, 16);
-            io::write_all(STDOUT_FILENO, b")");
-            true
-        }
-    }
-}
-
-fn show_anchor(a: ReadAnchor) -> u64
-    ensures { λ r. ⌜ r ≡ a .number ⌝ }
-{
-    let hash = a.hash;
-    io::write_all(STDOUT_FILENO, b" (");
-    io::print_decimal(STDOUT_FILENO, a.number);
-    show_hash(hash);
-    a.number
-}
-
-fn show_slot(slot: AnchorSlot) -> bool
-    ensures { λ r. ⌜ r ≡ isAt slot ⌝ }
-{
-    match slot {
-        AnchorSlot::Nothing => {
-            io::write_all(STDOUT_FILENO, b" none");
-            false
-        }
-        AnchorSlot::At(a) => {
-            show_anchor(a);
-            true
-        }
-    }
-}
-
-fn show_link(link: Link) -> bool
-    ensures { λ r. ⌜ r ≡ isLinked link ⌝ }
-{
-    match link {
-        Link::Linked => {
-            io::write_all(STDOUT_FILENO, b" linked");
-            true
-        }
-        Link::NoParent => {
-            io::write_all(STDOUT_FILENO, b" no-parent");
-            false
-        }
-        Link::NotConsecutive => {
-            io::write_all(STDOUT_FILENO, b" not-consecutive");
-            false
-        }
-        Link::HashUnknown => {
-            io::write_all(STDOUT_FILENO, b" hash-unknown");
-            false
-        }
-        Link::HashMismatch => {
-            io::write_all(STDOUT_FILENO, b" hash-mismatch");
-            false
-        }
-    }
-}
-
-// In a cold outcome a link without fault is `none`.
-fn show_fault(link: Link) -> bool
-    ensures { λ r. ⌜ r ≡ isLinked link ⌝ }
-{
-    match link {
-        Link::Linked => {
-            io::write_all(STDOUT_FILENO, b" none");
-            true
-        }
-        Link::NoParent => show_link(link),
-        Link::NotConsecutive => show_link(link),
-        Link::HashUnknown => show_link(link),
-        Link::HashMismatch => show_link(link),
-    }
-}
-
-fn show_skip(skip: BalSkip) -> bool
-    ensures { λ r. ⌜ r ≡ isRead skip ⌝ }
-{
-    match skip {
-        BalSkip::Nothing => {
-            io::write_all(STDOUT_FILENO, b" none");
-            true
-        }
-        BalSkip::NoHash => {
-            io::write_all(STDOUT_FILENO, b" no-hash");
-            false
-        }
-        BalSkip::Rpc(n) => {
-            io::write_all(STDOUT_FILENO, b" (rpc");
-            show_number(n);
-            io::write_all(STDOUT_FILENO, b")");
-            false
-        }
-        BalSkip::Decode(n) => {
-            io::write_all(STDOUT_FILENO, b" (decode");
-            show_number(n);
-            io::write_all(STDOUT_FILENO, b")");
-            false
-        }
-    }
-}
-
-fn show_cold(link: Link, skip: BalSkip) -> bool
-    ensures { λ r. ⌜ r ≡ isRead skip ⌝ }
-{
-    io::write_all(STDOUT_FILENO, b" (cold");
-    show_fault(link);
-    let read = show_skip(skip);
-    io::write_all(STDOUT_FILENO, b")");
-    read
-}
-
-fn show_outcome(outcome: CarryOutcome) -> bool
-    ensures { λ r. ⌜ r ≡ isCarried outcome ⌝ }
-{
-    match outcome {
-        CarryOutcome::Carried(c) => {
-            io::write_all(STDOUT_FILENO, b" (carried");
-            show_number(c);
-            io::write_all(STDOUT_FILENO, b")");
-            true
-        }
-        CarryOutcome::Cold(link, skip) => {
-            show_cold(link, skip);
-            false
-        }
-    }
-}
-
-fn show_report(report: LastReport) -> bool
-    ensures { λ r. ⌜ r ≡ isMade report ⌝ }
-{
-    match report {
-        LastReport::Nothing => {
-            io::write_all(STDOUT_FILENO, b" none");
-            false
-        }
-        LastReport::Made(outcome, n) => {
-            io::write_all(STDOUT_FILENO, b" (");
-            show_outcome(outcome);
-            show_number(n);
-            io::write_all(STDOUT_FILENO, b")");
-            true
-        }
-    }
-}
-
-fn show_end(end: HeadCompletion) -> bool
-    ensures { λ r. ⌜ r ≡ isOpen end ⌝ }
-{
-    match end {
-        HeadCompletion::Open => {
-            io::write_all(STDOUT_FILENO, b" none");
-            true
-        }
-        HeadCompletion::Settled => {
-            io::write_all(STDOUT_FILENO, b" settled");
-            false
-        }
-        HeadCompletion::Superseded => {
-            io::write_all(STDOUT_FILENO, b" superseded");
-            false
-        }
-        HeadCompletion::Abandoned => {
-            io::write_all(STDOUT_FILENO, b" abandoned");
-            false
-        }
-    }
-}
-
-fn show_reason(reason: HeadCold) -> bool
-    ensures { λ r. ⌜ r ≡ isReady (HeadReadiness.Cold reason) ⌝ }
-{
-    match reason {
-        HeadCold::Unprepared => {
-            io::write_all(STDOUT_FILENO, b" unprepared");
-            false
-        }
-        HeadCold::Superseded => {
-            io::write_all(STDOUT_FILENO, b" superseded");
-            false
-        }
-        HeadCold::Undelivered => {
-            io::write_all(STDOUT_FILENO, b" undelivered");
-            false
-        }
-        HeadCold::Abandoned => {
-            io::write_all(STDOUT_FILENO, b" abandoned");
-            false
-        }
-        HeadCold::Settled(link, skip) => {
-            show_cold(link, skip);
-            false
-        }
-    }
-}
-
-fn show_readiness(readiness: HeadReadiness) -> bool
-    ensures { λ r. ⌜ r ≡ isReady readiness ⌝ }
-{
-    match readiness {
-        HeadReadiness::Ready => {
-            io::write_all(STDOUT_FILENO, b" ready");
-            true
-        }
-        HeadReadiness::Cold(reason) => show_reason(reason),
-    }
-}
-
-fn show_source(source: Source) -> bool
-    ensures { λ r. ⌜ r ≡ isInstalled source ⌝ }
-{
-    match source {
-        Source::Installed => {
-            io::write_all(STDOUT_FILENO, b" installed");
-            true
-        }
-        Source::Provisional => {
-            io::write_all(STDOUT_FILENO, b" provisional");
-            false
-        }
-        Source::Previous => {
-            io::write_all(STDOUT_FILENO, b" previous");
-            false
-        }
-        Source::Spare => {
-            io::write_all(STDOUT_FILENO, b" spare");
-            false
-        }
-    }
-}
-
-fn show_view(view: HeadView) -> bool
-    ensures { λ r. ⌜ r ≡ isReady (view .readiness) ⌝ }
-{
-    let source = view.source;
-    let readiness = view.readiness;
-    io::write_all(STDOUT_FILENO, b"(view");
-    show_source(source);
-    show_number(view.handle);
-    show_readiness(readiness)
-}
-
-fn show_stats(s: HeadStats) -> u64
-    ensures { λ r. ⌜ r ≡ s .«cold_views» ⌝ }
-{
-    io::write_all(STDOUT_FILENO, b"(stats");
-    show_number(s.delivered);
-    show_number(s.repeated);
-    show_number(s.superseded);
-    show_number(s.settled);
-    show_number(s.already_current);
-    show_number(s.discarded);
-    show_number(s.ready_views);
-    show_number(s.cold_views)
-}
-
-fn show_settled(outcome: HeadOutcome) -> u64
-    ensures { λ r. ⌜ r ≡ outcomeSaid outcome .number ⌝ }
-{
-    match outcome {
-        HeadOutcome::Settled(o) => {
-            io::write_all(STDOUT_FILENO, b"(settled");
-            show_outcome(o);
-            0
-        }
-        HeadOutcome::AlreadySettled => {
-            io::write_all(STDOUT_FILENO, b"(refused 13");
-            13
-        }
-        HeadOutcome::InFlight => {
-            io::write_all(STDOUT_FILENO, b"(refused 14");
-            14
-        }
-        HeadOutcome::Superseded(a) => {
-            io::write_all(STDOUT_FILENO, b"(refused 11");
-            show_anchor(a);
-            11
-        }
-        HeadOutcome::Foreign(list, held) => {
-            io::write_all(STDOUT_FILENO, b"(refused 12");
-            show_anchor(list);
-            show_anchor(held);
-            12
-        }
-    }
-}
-
+// Prints an answer's line and gives its number.
 fn show(answer: Answer) -> u64
     ensures { λ r. ⌜ r ≡ said answer .number ⌝ }
 {
-    match answer {
-        Answer::Ticket(seq) => {
-            io::write_all(STDOUT_FILENO, b"(ticket");
-            show_number(seq.0);
-            0
-        }
-        Answer::Claimed(epoch) => {
-            io::write_all(STDOUT_FILENO, b"(claimed");
-            show_number(epoch.0);
-            0
-        }
-        Answer::Done => {
-            io::write_all(STDOUT_FILENO, b"(done");
-            0
-        }
-        Answer::Outcome(outcome) => show_settled(outcome),
-        Answer::View(view) => {
-            show_view(view);
-            0
-        }
-        Answer::Parked => {
-            io::write_all(STDOUT_FILENO, b"(parked");
-            0
-        }
-        Answer::Completion(end) => {
-            io::write_all(STDOUT_FILENO, b"(completion");
-            show_end(end);
-            0
-        }
-        Answer::Link(link) => {
-            io::write_all(STDOUT_FILENO, b"(link");
-            show_link(link);
-            0
-        }
-        Answer::Report(report) => {
-            io::write_all(STDOUT_FILENO, b"(report");
-            show_report(report);
-            0
-        }
-        Answer::Stats(stats) => {
-            show_stats(stats);
-            0
-        }
-        Answer::Heads(current, installed, previous) => {
-            io::write_all(STDOUT_FILENO, b"(heads");
-            show_slot(current);
-            show_slot(installed);
-            show_slot(previous);
-            0
-        }
-        Answer::ListAtOdds => {
-            io::write_all(STDOUT_FILENO, b"(refused 2");
-            2
-        }
-        Answer::WaiterOutOfRange => {
-            io::write_all(STDOUT_FILENO, b"(refused 3");
-            3
-        }
-        Answer::WaiterTaken => {
-            io::write_all(STDOUT_FILENO, b"(refused 15");
-            15
-        }
-        Answer::WaiterFree => {
-            io::write_all(STDOUT_FILENO, b"(refused 16");
-            16
-        }
-    }
+    let mut line = [0u8; 512];
+    let n = length_of(put_answer(&mut line, answer));
+    write_front(&line, n);
+    answer.number()
 }
 
 // Makes a call, prints its answer and gives the driver back.
@@ -421,7 +58,6 @@ fn play(d: Driver, call: Call) -> Driver
     let turn = step(d, call);
     let answer = turn.answer;
     show(answer);
-    io::write_all(STDOUT_FILENO, b")\n");
     turn.driver
 }
 
