@@ -49,8 +49,9 @@ use Rattle.alike.proofs.Poses.{Pose, Unsettled, currentAnchor, held-at,
 use Rattle.alike.proofs.Replies.{ticket-ok}
 use Rattle.alike.proofs.Tests.{anchor-same, by-if, eqb-same, is-false, same-anchor}
 use Rattle.alike.specs.Invariant.{Ordered}
-use Rattle.alike.specs.Ranges.{AnchorFits, Fits, HashFits, SkipFits}
-use Rattle.alike.specs.Runs.{Writable}
+use Rattle.head_anchor.specs.Ranges.{AnchorFits, SkipFits}
+use Rattle.hash.specs.Ranges.{Fits, HashFits}
+use Rattle.head_call.specs.Ranges.{Writable}
 
 -- An anchor that is in neither of two slots: one of three numbers is not theirs.
 

@@ -24,7 +24,9 @@ use Rattle.alike.proofs.Shown.{alike-canon, shown-waiters}
 use Rattle.alike.proofs.Tests.{anchor-same, true-false}
 use Rattle.alike.specs.Canon.{canon, masked, shownDelivery, shownHead, shownLife, shownSuperseded, shownWaiters}
 use Rattle.alike.specs.Invariant.{Any, ByHead, OpenOrAbandoned, Ordered, Parks, WhenAbsent}
-use Rattle.alike.specs.Ranges.{DeliveryFits, DriverFits, Fits, HeadFits}
+use Rattle.head_current.specs.Ranges.{DeliveryFits, HeadFits}
+use Rattle.alike.specs.Ranges.{DriverFits}
+use Rattle.hash.specs.Ranges.{Fits}
 use Rattle.alike.specs.Statements.{CanonKept, CanonTwice}
 
 -- The lifecycle's rules read no epoch of an attempt that is not being prepared.

@@ -28,7 +28,7 @@ use Rattle.alike.proofs.Replies.{snapshot-previous, snapshot-spare}
 use Rattle.alike.proofs.Tests.{by-test, holds-same, is-false, same-holds, true-false, up-same}
 use Rattle.alike.proofs.Twins.{Twin, twin-answer, twin-step}
 use Rattle.alike.specs.Invariant.{Ordered}
-use Rattle.alike.specs.Ranges.{AnchorFits, SlotFits}
+use Rattle.head_anchor.specs.Ranges.{AnchorFits, SlotFits}
 
 -- twins after a delivery that is new to both
 twin-deliver : {d₁ d₂ : Driver} → Twin d₁ d₂ → (here : Bool) (a : ReadAnchor) → AnchorFits a → holds (currentAnchor d₁) a ≡ false → holds (installedAnchor d₁) a ≡ here → Twin (delivered-new d₁ here a) (delivered-new d₂ here a)

@@ -43,8 +43,13 @@ use Rattle.alike.proofs.KeptOrder.{held-same, nothing-held}
 use Rattle.alike.proofs.Moves.{Move, step-move}
 use Rattle.alike.proofs.Tests.{by-if, up-fits}
 use Rattle.alike.proofs.Waking.{ending-fits, ending-length, set-fits}
-use Rattle.alike.specs.Ranges.{AnchorFits, DeliveryFits, DriverFits, Fits, GenerationSlotFits, HashFits, HeadFits, LifeFits, OutcomeFits, ReadinessFits, ReportFits, SkipFits, SlotFits, StatsFit, WaiterFits}
-use Rattle.alike.specs.Runs.{Writable}
+use Rattle.head_anchor.specs.Ranges.{AnchorFits, OutcomeFits, SkipFits, SlotFits}
+use Rattle.head_current.specs.Ranges.{DeliveryFits, HeadFits, ReportFits}
+use Rattle.alike.specs.Ranges.{DriverFits, LifeFits, WaiterFits}
+use Rattle.hash.specs.Ranges.{Fits, HashFits}
+use Rattle.head_ready.specs.Ranges.{GenerationSlotFits, ReadinessFits}
+use Rattle.head_count.specs.Ranges.{StatsFit}
+use Rattle.head_call.specs.Ranges.{Writable}
 
 -- counters
 

@@ -6,7 +6,7 @@ use Rattle.head_anchor.specs.declared.storage_memo.AnchorSlot.{AnchorSlot}
 use Rattle.head_anchor.specs.declared.storage_memo.ReadAnchor.{ReadAnchor}
 use Rattle.alike.proofs.Tests.{at-same, by-if, by-test, holds-same, is-false, nothing-at, same-anchor, same-holds, true-false}
 use Rattle.alike.specs.Canon.{maskBy}
-use Rattle.alike.specs.Ranges.{SlotFits}
+use Rattle.head_anchor.specs.Ranges.{SlotFits}
 
 -- a second time it hides nothing more
 pub mask-twice : (h : ReadAnchor → Bool) (s : AnchorSlot) → maskBy h (maskBy h s) ≡ maskBy h s

@@ -32,7 +32,9 @@ use Rattle.alike.proofs.Alike.{SameHead, unsettledAt}
 use Rattle.alike.proofs.KeptRanges.{held-fits}
 use Rattle.alike.proofs.Tests.{at-same, is-false, nothing-at, same-anchor}
 use Rattle.alike.specs.Invariant.{Follows, Ordered}
-use Rattle.alike.specs.Ranges.{AnchorFits, GenerationSlotFits, HeadFits}
+use Rattle.head_anchor.specs.Ranges.{AnchorFits}
+use Rattle.head_ready.specs.Ranges.{GenerationSlotFits}
+use Rattle.head_current.specs.Ranges.{HeadFits}
 
 abbrev pub currentAnchor : Driver → AnchorSlot
 currentAnchor d = anchorOf (delivery (d .life .current))

@@ -34,7 +34,8 @@ use Rattle.alike.proofs.Replies.{claim-answers, completion-answers, del
 use Rattle.alike.proofs.Tests.{at-same, by-test, hash-same, nothing-at, same-hash, up-other}
 use Rattle.alike.proofs.Twins.{Twin, twin-answer}
 use Rattle.alike.specs.Invariant.{Ordered}
-use Rattle.alike.specs.Ranges.{AnchorFits, Fits}
+use Rattle.head_anchor.specs.Ranges.{AnchorFits}
+use Rattle.hash.specs.Ranges.{Fits}
 
 pub zero-fits : Fits 0
 zero-fits = lit< tt

@@ -13,7 +13,7 @@ use Rattle.hash.specs.declared.Hash.{Hash}
 use Rattle.head_anchor.specs.declared.storage_memo.AnchorSlot.{AnchorSlot}
 use Rattle.head_anchor.specs.declared.storage_memo.BlockHash.{BlockHash}
 use Rattle.head_anchor.specs.declared.storage_memo.ReadAnchor.{ReadAnchor}
-use Rattle.alike.specs.Ranges.{Fits}
+use Rattle.hash.specs.Ranges.{Fits}
 
 pub true-false : {X : Type 0} {b : Bool} → b ≡ true → b ≡ false → X
 true-false p q = let z : _≡_ {A = ℕ} 0 1 = cc in absurd (omega arith)

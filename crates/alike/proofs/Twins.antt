@@ -9,7 +9,8 @@ use Rattle.head_driver.specs.declared.head_lifecycle.Driver.{Driver}
 use Rattle.head_call.specs.declared.head_lifecycle.Call.{Call}
 use Rattle.alike.proofs.Kept.{kept}
 use Rattle.alike.specs.Invariant.{Invariant}
-use Rattle.alike.specs.Runs.{Writable, answers}
+use Rattle.head_call.specs.Ranges.{Writable}
+use Rattle.alike.specs.Runs.{answers}
 use Rattle.alike.specs.Statements.{SameAnswers}
 
 pub record Twin (d₁ d₂ : Driver) : Type 0 where

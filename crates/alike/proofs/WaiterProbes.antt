@@ -59,7 +59,8 @@ use Rattle.alike.proofs.Tests.{anchor-same, at-same, by-if, by-test, ho
 use Rattle.alike.proofs.Twins.{Twin, twin-answer, twin-step, twin-sym}
 use Rattle.alike.proofs.Waking.{at-fits, at-none, ending-at, wake-at, woken-not}
 use Rattle.alike.specs.Invariant.{NotParked, Ordered, Parks}
-use Rattle.alike.specs.Ranges.{AnchorFits, WaiterFits}
+use Rattle.head_anchor.specs.Ranges.{AnchorFits}
+use Rattle.alike.specs.Ranges.{WaiterFits}
 
 -- what a resume's answer tells
 abbrev vacant : ℕ

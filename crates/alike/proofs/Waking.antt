@@ -13,7 +13,9 @@ use Rattle.head_attempt.specs.declared.head_lifecycle.Waiter.{Waiter}
 use Rattle.head_attempt.specs.declared.head_lifecycle.WaiterSlot.{WaiterSlot}
 use Rattle.head_current.specs.declared.head_lifecycle.CurrentHead.{CurrentHead}
 use Rattle.alike.specs.Invariant.{NoneParked, NotParked, Parks}
-use Rattle.alike.specs.Ranges.{AnchorFits, HeadFits, WaiterFits, WaitersFit}
+use Rattle.head_anchor.specs.Ranges.{AnchorFits}
+use Rattle.head_current.specs.Ranges.{HeadFits}
+use Rattle.alike.specs.Ranges.{WaiterFits, WaitersFit}
 
 -- any end but the open one
 abbrev pub Ends : HeadCompletion → Type 0

@@ -9,7 +9,8 @@ use Rattle.head_driver.specs.declared.head_lifecycle.Driver.{Driver}
 use Rattle.head_call.specs.declared.head_lifecycle.Call.{Call}
 use Rattle.alike.specs.Canon.{canon}
 use Rattle.alike.specs.Invariant.{Invariant}
-use Rattle.alike.specs.Runs.{AllWritable, Writable, after, answers}
+use Rattle.alike.specs.Runs.{AllWritable, after, answers}
+use Rattle.head_call.specs.Ranges.{Writable}
 
 -- The invariant holds of a new driver,
 abbrev pub HoldsOfNew : Type 0

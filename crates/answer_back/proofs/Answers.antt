@@ -3,12 +3,14 @@ use Prim.Native.Nat.{ℕ}
 use native.Mathlib.Omega.{arith}
 use mathlib.Core.List.{List, [], _++_}
 use mathlib.Core.Path.{_≡_, refl, ap, sym, _∙_}
-use Rattle.head_anchor.specs.Values.{anchorValue}
 use Rattle.head_driver.specs.Answers.{outcomeSaid, said, statsValues}
-use Rattle.script_answer.specs.Answers.{answerLine}
 use Rattle.script_back.proofs.Anchors.{anchor-back, slot-back, spaced-back, spaced-run, stats-back}
 use Rattle.script_back.proofs.Outcomes.{end-back, link-back, outcome-back, readiness-back, report-back, source-back}
-use Rattle.script_back.specs.Ranges.{AnchorFits, Fits, OutcomeFits, ReadinessFits, ReportFits, SlotFits, StatsFit}
+use Rattle.head_anchor.specs.Ranges.{AnchorFits, OutcomeFits, SlotFits}
+use Rattle.hash.specs.Ranges.{Fits}
+use Rattle.head_ready.specs.Ranges.{ReadinessFits}
+use Rattle.head_current.specs.Ranges.{ReportFits}
+use Rattle.head_count.specs.Ranges.{StatsFit}
 use Rattle.script_back.specs.Reads.{got, map, then}
 use Rattle.script_answer.specs.Lines.{refusalOn}
 use Rattle.script_outcome.specs.Texts.{endText, linkText, outcomeText, readinessText, reportText, sourceText}

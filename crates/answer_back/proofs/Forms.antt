@@ -1,7 +1,7 @@
 -- How an answer's line is cut: a bracket, a word, and the rest.
 use Prim.Native.Nat.{ℕ, zero, suc}
 use mathlib.Core.List.{List, [], _∷_, _++_, append-assoc}
-use mathlib.Core.Path.{_≡_, refl, ap, sym, _∙_}
+use mathlib.Core.Path.{_≡_, refl, ap, _∙_}
 use lib.ListN.{length}
 use Rattle.head_anchor.specs.Values.{Value}
 use Rattle.head_driver.specs.Answers.{said}

@@ -1,5 +1,9 @@
 -- Every number of an answer is one of 64 bits, and so is every word of its hashes.
-use Rattle.script_back.specs.Ranges.{AnchorFits, Fits, OutcomeFits, ReadinessFits, ReportFits, SlotFits, StatsFit}
+use Rattle.head_anchor.specs.Ranges.{AnchorFits, OutcomeFits, SlotFits}
+use Rattle.hash.specs.Ranges.{Fits}
+use Rattle.head_ready.specs.Ranges.{ReadinessFits}
+use Rattle.head_current.specs.Ranges.{ReportFits}
+use Rattle.head_count.specs.Ranges.{StatsFit}
 use Rattle.head_driver.specs.declared.head_lifecycle.Answer.{Answer}
 use Rattle.head_ready.specs.declared.head_lifecycle.HeadOutcome.{HeadOutcome}
 

@@ -17,7 +17,7 @@ use Rattle.text.specs.Rests.{Rest, at, stopped, Took, step, after, wordHere, sa
 use Rattle.text.proofs.Back.{says-back, past-back, number-back}
 use Rattle.hash_text.specs.LineHashes.{lineHashText, lineHash}
 use Rattle.hash_text.specs.Reads.{hashGot, readHash}
-use Rattle.hash_text.specs.Ranges.{HashFits}
+use Rattle.hash.specs.Ranges.{HashFits, Fits}
 use Rattle.hash_text.specs.declared.HashWord.{HashWord}
 use Rattle.hash_text.proofs.Back.{hash-back, hash-says}
 use Rattle.call_value.specs.Values.{blockHashGot, readBlockHash, readAnchor, readSlot, spacedNumber, readFailure, readSkip, spacedHash, spacedAnchor, spacedSlot, spacedSkip}
@@ -26,7 +26,7 @@ use Rattle.value_text.specs.Values.{hashText, valueText}
 use Rattle.value_text.specs.Words.{wordText}
 use Rattle.head_anchor.specs.Values.{anchorValue, blockHashValue, skipValue, slotValue}
 use Rattle.value_text.specs.declared.page.Page.{Page}
-use Rattle.call_value.specs.Ranges.{Fits, BlockHashFits, AnchorFits, SlotFits, SkipFits}
+use Rattle.head_anchor.specs.Ranges.{BlockHashFits, AnchorFits, SlotFits, SkipFits}
 
 -- ---- anchors
 

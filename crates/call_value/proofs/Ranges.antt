@@ -10,11 +10,11 @@ use Rattle.text.specs.Ascii.{ascii}
 use Rattle.text.specs.Rests.{Rest, Took, wordHere, says, pastWord}
 use Rattle.text.proofs.Only.{number-range}
 use Rattle.hash_text.specs.LineHashes.{lineHash}
-use Rattle.hash_text.specs.Ranges.{HashFits}
+use Rattle.hash.specs.Ranges.{HashFits, Fits}
 use Rattle.hash_text.specs.declared.HashWord.{HashWord}
 use Rattle.hash_text.proofs.Only.{line-hash-only, hash-range}
 use Rattle.call_value.specs.Values.{blockHashGot, readBlockHash, readAnchor, readSlot, spacedNumber, readFailure, readSkip, spacedHash, spacedAnchor, spacedSlot, spacedSkip}
-use Rattle.call_value.specs.Ranges.{Fits, BlockHashFits, AnchorFits, SlotFits, SkipFits}
+use Rattle.head_anchor.specs.Ranges.{BlockHashFits, AnchorFits, SlotFits, SkipFits}
 
 -- what holds of both sides of a choice holds of what is chosen
 pub chosen : {A : Type 0} (P : A → Type 0) (b : Bool) (x y : A) → P x → P y → P (if b x y)

@@ -1,7 +1,6 @@
 // Anchors on a line.
 ghost use Rattle.call_value.specs.Values.{readBlockHash, readAnchor, readSlot};
 ghost use Rattle.text.specs.Places.{here, Reads};
-use hash::Hash;
 use hash_text::HashWord;
 use hash_text::read_hash;
 use head_anchor::storage_memo::AnchorSlot;

@@ -1,3 +1,4 @@
--- When two hashes are equal, and choice by a test.
+-- When two hashes are equal, choice by a test, and the range of every number.
 pub mod Logic
 pub mod Hashes
+pub mod Ranges

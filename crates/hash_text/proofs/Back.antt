@@ -12,7 +12,7 @@ use Rattle.text.proofs.Same.{same-short}
 use Rattle.hash_text.specs.LineHashes.{lineHashText, lineHash}
 use Rattle.hash_text.specs.SheetHashes.{sheetHashText, sheetHash}
 use Rattle.hash_text.specs.Reads.{hashGot, readHash, readSheetHash}
-use Rattle.hash_text.specs.Ranges.{HashFits}
+use Rattle.hash.specs.Ranges.{HashFits}
 use Rattle.hash_text.specs.declared.HashWord.{HashWord}
 use Rattle.hash_text.proofs.HexRead.{length-hexText, run-hexText, read-hexText}
 

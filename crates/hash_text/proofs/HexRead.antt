@@ -14,7 +14,7 @@ use Rattle.hash.specs.declared.Hash.{Hash}
 use Rattle.text.specs.Words.{run, inWord}
 use Rattle.hash_text.specs.Hex.{glyph, hexOn, hex, hexText, digitValue, joinDigit, hexMore, hexNumber, joined, hexHash}
 use Rattle.text.specs.Digits.{readOn}
-use Rattle.hash_text.specs.Ranges.{HashFits}
+use Rattle.hash.specs.Ranges.{HashFits}
 use Rattle.text.specs.declared.decimal.Number.{Number}
 use Rattle.hash_text.specs.declared.Digit.{Digit}
 use Rattle.hash_text.specs.declared.HashWord.{HashWord}

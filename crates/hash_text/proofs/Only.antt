@@ -20,7 +20,7 @@ use Rattle.hash_text.specs.Hex.{glyph, hexOn, hex, hexText, digitValue, 
 use Rattle.hash_text.specs.LineHashes.{lineHashText, lineHash}
 use Rattle.hash_text.specs.SheetHashes.{sheetHashText, sheetHash}
 use Rattle.hash_text.specs.Reads.{hashGot, readHash, readSheetHash}
-use Rattle.hash_text.specs.Ranges.{HashFits}
+use Rattle.hash.specs.Ranges.{HashFits}
 use Rattle.hash_text.specs.declared.Digit.{Digit}
 use Rattle.hash_text.specs.declared.HashWord.{HashWord}
 use Rattle.hash_text.proofs.HexRead.{digit-is, more-bad}

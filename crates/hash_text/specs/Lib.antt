@@ -1,7 +1,5 @@
--- Document 01's hashes: LineHashes, on a line; SheetHashes, on a sheet; Hex, the digits of both. The rest is the helpers': ranges, and
--- reading on.
+-- Document 01's hashes: LineHashes, on a line; SheetHashes, on a sheet; Hex, the digits of both. Reads is the helpers'.
 pub mod LineHashes
 pub mod SheetHashes
 pub mod Hex
-pub mod Ranges
 pub mod Reads

@@ -1,6 +1,7 @@
--- Document 01, "Anchor and link" and "Prepared list and outcome". All of it is the paper's.
+-- Document 01, "Anchor and link" and "Prepared list and outcome". All but Ranges, which the theorems speak of, is the paper's.
 pub mod Anchors
 pub mod Links
 pub mod Lists
 pub mod Words
 pub mod Values
+pub mod Ranges

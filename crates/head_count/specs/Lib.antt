@@ -1,2 +1,3 @@
--- Document 01, "Lifecycle": the counters, delivery numbers and epochs. All of it is the paper's.
+-- Document 01, "Lifecycle": the counters, delivery numbers and epochs. All but Ranges, which the theorems speak of, is the paper's.
 pub mod Counters
+pub mod Ranges

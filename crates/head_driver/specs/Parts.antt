@@ -12,15 +12,15 @@ use Rattle.head_life.specs.declared.head_lifecycle.HeadLifecycle.{HeadLifecycle
 abbrev pub replyOf : Driver → Answer → Reply
 replyOf d answer = record { driver = d; answer = answer }
 
-unfoldable pub withLife : Driver → HeadLifecycle → Driver
-withLife d l = record { life = l; waiters = d .waiters }
-
 -- the waiters after the current preparation, if there is one, has ended so
 unfoldable pub wakeCurrent : HeadCompletion → CurrentHead → List WaiterSlot → List WaiterSlot
 wakeCurrent end CurrentHead.Absent ws = ws
 wakeCurrent end (CurrentHead.Unclaimed u) ws = ws
 wakeCurrent end (CurrentHead.Preparing u) ws = wake end (u .delivery .anchor) ws
 wakeCurrent end (CurrentHead.Settled s) ws = ws
+
+unfoldable pub withLife : Driver → HeadLifecycle → Driver
+withLife d l = record { life = l; waiters = d .waiters }
 
 -- the next lifecycle, with the current preparation ended so
 abbrev pub endingWith : Driver → HeadLifecycle → HeadCompletion → Driver

@@ -3,7 +3,7 @@ use Prim.Native.Nat.{ℕ}
 use lib.Dec.{ltb}
 use Rattle.alike.proofs.Tests.{by-if, up-fits}
 use Rattle.alike.specs.Ranges as A
-use Rattle.alike.specs.Runs.{Writable}
+use Rattle.head_call.specs.Ranges.{Writable}
 use Rattle.answer_back.specs.Ranges.{AnswerFits, HeadOutcomeFits}
 use Rattle.hash.specs.Logic.{both}
 use Rattle.head_anchor.specs.Anchors.{holds, sameAnchor}
@@ -34,8 +34,10 @@ use Rattle.head_step.specs.Dispatch.{dispatch}
 use Rattle.head_step.specs.Steps.{step}
 use Rattle.head_snapshot.specs.Views.{currentView, generationView, provisionalView, spareReason, spareView, view}
 use Rattle.head_waits.specs.Calls.{resume, wait}
-use Rattle.script_back.specs.Ranges.{ColdFits, Fits, OutcomeFits, ReadinessFits, ReportFits, SlotFits}
-use Rattle.sheet_back.proofs.Ranges.{anchor-range, readiness-range, report-range, skip-range, stats-range}
+use Rattle.head_ready.specs.Ranges.{ColdFits, GenerationSlotFits, ReadinessFits}
+use Rattle.hash.specs.Ranges.{Fits}
+use Rattle.head_anchor.specs.Ranges.{AnchorFits, OutcomeFits, SkipFits, SlotFits}
+use Rattle.head_current.specs.Ranges.{DeliveryFits, HeadFits, ReportFits, UnsettledFits}
 use Rattle.hash.specs.declared.Hash.{Hash}
 use Rattle.head_anchor.specs.declared.bal_prefetch.BalSkip.{BalSkip}
 use Rattle.head_anchor.specs.declared.storage_memo.AnchorSlot.{AnchorSlot}
@@ -66,9 +68,9 @@ Replied r = AnswerFits (r .answer)
 
 abbrev HeldFits : DeliverySlot → Type 0
 HeldFits DeliverySlot.Nothing = Unit {0}
-HeldFits (DeliverySlot.Held held) = A.DeliveryFits held
+HeldFits (DeliverySlot.Held held) = DeliveryFits held
 
-delivery-fits : (c : CurrentHead) → A.HeadFits c → HeldFits (delivery c)
+delivery-fits : (c : CurrentHead) → HeadFits c → HeldFits (delivery c)
 unfolding delivery
 delivery-fits CurrentHead.Absent f = tt
 delivery-fits (CurrentHead.Unclaimed u) f = f .delivery
@@ -78,19 +80,19 @@ delivery-fits (CurrentHead.Settled s) f = f .delivery
 current-fits : (s : DeliverySlot) → HeldFits s → SlotFits (anchorOf s)
 unfolding anchorOf
 current-fits DeliverySlot.Nothing f = tt
-current-fits (DeliverySlot.Held held) f = anchor-range (held .anchor) (f .anchor)
+current-fits (DeliverySlot.Held held) f = f .anchor
 
-slot-fits : (g : GenerationSlot) → A.GenerationSlotFits g → SlotFits (slotAnchor g)
+slot-fits : (g : GenerationSlot) → GenerationSlotFits g → SlotFits (slotAnchor g)
 unfolding slotAnchor
 slot-fits GenerationSlot.Nothing f = tt
-slot-fits (GenerationSlot.Held g) f = anchor-range (g .anchor) (f .anchor)
+slot-fits (GenerationSlot.Held g) f = f .anchor
 
-last-report-fits : (c : CurrentHead) → A.HeadFits c → ReportFits (lastReport c)
+last-report-fits : (c : CurrentHead) → HeadFits c → ReportFits (lastReport c)
 unfolding lastReport
 last-report-fits CurrentHead.Absent f = tt
 last-report-fits (CurrentHead.Unclaimed u) f = tt
 last-report-fits (CurrentHead.Preparing u) f = tt
-last-report-fits (CurrentHead.Settled s) f = report-range (s .report) (f .report)
+last-report-fits (CurrentHead.Settled s) f = f .report
 
 -- ---- deliver
 
@@ -109,16 +111,16 @@ abbrev StartFits : ClaimStart → Type 0
 StartFits (ClaimStart.Claimed e) = Fits (e .0)
 StartFits (ClaimStart.Refused o) = HeadOutcomeFits o
 
-gate-fits : (i : AnchorSlot) (held : HeadDelivery) (ticket : HeadTicket) (next : ClaimStart) → A.DeliveryFits held → StartFits next → StartFits (claimGate i held ticket next)
+gate-fits : (i : AnchorSlot) (held : HeadDelivery) (ticket : HeadTicket) (next : ClaimStart) → DeliveryFits held → StartFits next → StartFits (claimGate i held ticket next)
 unfolding claimGate
 gate-fits i held ticket next f g =
     by-if StartFits (ticketOf held ticket) _ _
     (λ e. by-if StartFits (holds i (ticket .anchor)) _ _ (λ e. tt) (λ e. g))
-    (λ e. anchor-range (held .anchor) (f .anchor))
+    (λ e. f .anchor)
 
-start-fits : (i : AnchorSlot) (e : Epoch) (c : CurrentHead) (ticket : HeadTicket) → A.Fits (e .0) → A.HeadFits c → A.AnchorFits (ticket .anchor) → StartFits (claimStartAt i e c ticket)
+start-fits : (i : AnchorSlot) (e : Epoch) (c : CurrentHead) (ticket : HeadTicket) → Fits (e .0) → HeadFits c → AnchorFits (ticket .anchor) → StartFits (claimStartAt i e c ticket)
 unfolding nextEpoch
-start-fits i e CurrentHead.Absent ticket g f t = anchor-range (ticket .anchor) t
+start-fits i e CurrentHead.Absent ticket g f t = t
 start-fits i e (CurrentHead.Unclaimed u) ticket g f t = gate-fits i (u .delivery) ticket _ (f .delivery) (up-fits (e .0) g)
 start-fits i e (CurrentHead.Preparing u) ticket g f t = gate-fits i (u .delivery) ticket _ (f .delivery) tt
 start-fits i e (CurrentHead.Settled s) ticket g f t = gate-fits i (s .delivery) ticket _ (f .delivery) tt
@@ -135,20 +137,20 @@ PlanFits (ApplyPlan.Refused o) = HeadOutcomeFits o
 PlanFits (ApplyPlan.Discarded o) = HeadOutcomeFits o
 PlanFits (ApplyPlan.Admitted held) = Unit {0}
 
-plan-fits : (i : AnchorSlot) (s : DeliverySlot) (ticket : HeadTicket) (list : ReadAnchor) → HeldFits s → A.AnchorFits (ticket .anchor) → A.AnchorFits list → PlanFits (planAt i s ticket list)
+plan-fits : (i : AnchorSlot) (s : DeliverySlot) (ticket : HeadTicket) (list : ReadAnchor) → HeldFits s → AnchorFits (ticket .anchor) → AnchorFits list → PlanFits (planAt i s ticket list)
 unfolding planHeld
-plan-fits i DeliverySlot.Nothing ticket list f t l = anchor-range (ticket .anchor) t
+plan-fits i DeliverySlot.Nothing ticket list f t l = t
 plan-fits i (DeliverySlot.Held held) ticket list f t l =
-    let h = anchor-range (held .anchor) (f .anchor) in
+    let h = f .anchor in
     by-if PlanFits (ticketOf held ticket) _ _
-    (λ e. by-if PlanFits (sameAnchor list (held .anchor)) _ _ (λ e. by-if PlanFits (holds i (held .anchor)) _ _ (λ e. tt) (λ e. tt)) (λ e. (anchor-range list l, h)))
+    (λ e. by-if PlanFits (sameAnchor list (held .anchor)) _ _ (λ e. by-if PlanFits (holds i (held .anchor)) _ _ (λ e. tt) (λ e. tt)) (λ e. (l, h)))
     (λ e. h)
 
-outcome-fits : (i : AnchorSlot) (a : ReadAnchor) (p : Hash) (skip : BalSkip) (carried : ℕ) → A.SkipFits skip → Fits carried → OutcomeFits (applyPrepared i a p skip carried)
+outcome-fits : (i : AnchorSlot) (a : ReadAnchor) (p : Hash) (skip : BalSkip) (carried : ℕ) → SkipFits skip → Fits carried → OutcomeFits (applyPrepared i a p skip carried)
 unfolding applyPrepared outcome
-outcome-fits i a p skip carried f g = by-if OutcomeFits (both (isLinked (classifyLink i a p)) (isRead skip)) _ _ (λ e. g) (λ e. skip-range skip f)
+outcome-fits i a p skip carried f g = by-if OutcomeFits (both (isLinked (classifyLink i a p)) (isRead skip)) _ _ (λ e. g) (λ e. f)
 
-applied-fits : (d : Driver) (skip : BalSkip) (handle carried made : ℕ) (plan : ApplyPlan) → A.SkipFits skip → Fits carried → PlanFits plan → Replied (applyAs d skip handle carried made plan)
+applied-fits : (d : Driver) (skip : BalSkip) (handle carried made : ℕ) (plan : ApplyPlan) → SkipFits skip → Fits carried → PlanFits plan → Replied (applyAs d skip handle carried made plan)
 unfolding applyAs settleAs
 applied-fits d skip handle carried made (ApplyPlan.Refused o) f g h = h
 applied-fits d skip handle carried made (ApplyPlan.Discarded o) f g h = h
@@ -163,16 +165,16 @@ spare-fits : (s : AnchorSlot) (a : ReadAnchor) (spare : ℕ) → Fits spare → 
 unfolding spareView spareReason
 spare-fits s a spare f = (f, by-if ColdFits (holds s a) _ _ (λ e. tt) (λ e. tt))
 
-generation-fits : (source : Source) (g : GenerationSlot) (a : ReadAnchor) (other : HeadView) → A.GenerationSlotFits g → ViewFits other → ViewFits (generationView source g a other)
+generation-fits : (source : Source) (g : GenerationSlot) (a : ReadAnchor) (other : HeadView) → GenerationSlotFits g → ViewFits other → ViewFits (generationView source g a other)
 unfolding generationView
 generation-fits source GenerationSlot.Nothing a other f h = h
-generation-fits source (GenerationSlot.Held g) a other f h = by-if ViewFits (sameAnchor (g .anchor) a) _ _ (λ e. (f .handle, readiness-range (g .readiness) (f .readiness))) (λ e. h)
+generation-fits source (GenerationSlot.Held g) a other f h = by-if ViewFits (sameAnchor (g .anchor) a) _ _ (λ e. (f .handle, f .readiness)) (λ e. h)
 
-provisional-fits : (u : UnsettledHead) (a : ReadAnchor) (other : HeadView) → A.UnsettledFits u → ViewFits other → ViewFits (provisionalView u a other)
+provisional-fits : (u : UnsettledHead) (a : ReadAnchor) (other : HeadView) → UnsettledFits u → ViewFits other → ViewFits (provisionalView u a other)
 unfolding provisionalView
 provisional-fits u a other f h = by-if ViewFits (sameAnchor (u .delivery .anchor) a) _ _ (λ e. (f .provisional, tt)) (λ e. h)
 
-current-view-fits : (c : CurrentHead) (a : ReadAnchor) (other : HeadView) → A.HeadFits c → ViewFits other → ViewFits (currentView c a other)
+current-view-fits : (c : CurrentHead) (a : ReadAnchor) (other : HeadView) → HeadFits c → ViewFits other → ViewFits (currentView c a other)
 unfolding currentView
 current-view-fits CurrentHead.Absent a other f h = h
 current-view-fits (CurrentHead.Unclaimed u) a other f h = provisional-fits u a other f h
@@ -244,7 +246,7 @@ dispatch-fits d (Call.Resume n spare) f r = by-if Replied (ltb n 16) _ _ (λ e. 
 dispatch-fits d (Call.Completion a) f r = tt
 dispatch-fits d (Call.Link parent child p) f r = tt
 dispatch-fits d Call.Report f r = last-report-fits (d .life .current) (f .life .current)
-dispatch-fits d Call.Stats f r = stats-range (d .life .stats) (f .life .stats)
+dispatch-fits d Call.Stats f r = f .life .stats
 dispatch-fits d Call.Heads f r = (current-fits (delivery (d .life .current)) (delivery-fits (d .life .current) (f .life .current)), slot-fits (d .life .installed) (f .life .installed), slot-fits (d .life .previous) (f .life .previous))
 
 pub answer-fits : (d : Driver) (c : Call) → A.DriverFits d → Writable c → AnswerFits (step d c .answer)

@@ -20,7 +20,7 @@ use Rattle.text.specs.Ascii.{ascii}
 use Rattle.head_driver.specs.declared.head_lifecycle.Driver.{Driver}
 use Rattle.script_call.specs.declared.LineCall.{LineCall}
 use Rattle.rules.specs.Inputs.{EndsInFeed, InputsRule, alone, empty, ended, lastSheet, leftBy}
-use Rattle.rules.specs.Runs.{Entry, after}
+use Rattle.rules.specs.Runs.{after}
 use Rattle.rules.specs.Statements.{CountersBelow, TellingBelow}
 use Rattle.rules.proofs.Lines.{lines-keep}
 use Rattle.rules.proofs.Rule.{kept-answers-tell-sheets, kept-sheets-tell-answers}

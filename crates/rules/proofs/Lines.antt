@@ -3,6 +3,7 @@ use Prim.Native.Nat.{ℕ}
 use native.Mathlib.Omega.{arith}
 use mathlib.Core.List.{List, [], _∷_}
 use mathlib.Core.Path.{_≡_, refl, ap, ap₂, sym, _∙_}
+use Rattle.head_call.specs.Ranges.{Writable}
 use Rattle.alike.proofs.Kept.{kept}
 use Rattle.alike.specs.Invariant.{Invariant}
 use Rattle.alike.specs.Runs as R
@@ -25,7 +26,6 @@ use Rattle.rules.specs.Runs.{Bytes, Entry, Further, after, answers, turn
 use Rattle.rules.specs.Statements.{LinesKeep, SameAnswers}
 use Rattle.rules.proofs.Bytes.{bytes-call, one-line-call}
 use Rattle.rules.proofs.Fits.{answer-fits}
-use Rattle.rules.proofs.Ranges.{to-call, to-line}
 
 -- ---- the invariant
 
@@ -33,7 +33,7 @@ turn-keeps : (d : Driver) (q : LineCall) (buffer : List ℕ) → LineWritable q 
 unfolding turnOf made
 turn-keeps d LineCall.NoCall buffer r v = v
 turn-keeps d LineCall.Sheet buffer r v = v
-turn-keeps d (LineCall.Make c) buffer r v = kept d c v (to-call c r)
+turn-keeps d (LineCall.Make c) buffer r v = kept d c v r
 
 pub lines-keep : LinesKeep
 unfolding after
@@ -76,7 +76,7 @@ unfolding turnOf made lineText R.answers
 turn-alike d₁ d₂ s LineCall.NoCall b r n = record { answer = refl; later = s }
 turn-alike d₁ d₂ s LineCall.Sheet b r n = absurd n
 turn-alike d₁ d₂ s (LineCall.Make c) b r n =
-    let w = to-call c r in
+    let w = r in
     record { answer = ap answerLine (ap (firstOr Answer.Done) (s (c ∷ []) (w, tt))); later = λ cs ws. ap rest (s (c ∷ cs) (w, ws)) }
 
 pub lines-alike : (d₁ d₂ : Driver) → C.SameAnswers d₁ d₂ → SameAnswers d₁ d₂
@@ -95,14 +95,14 @@ lineOf c = record { line = callText c; buffer = [] }
 made-sheet : {c : Call} → LineCall.Make c ≡ LineCall.Sheet → ⊥
 made-sheet p = let z : _≡_ {A = ℕ} 0 1 = cc in absurd (omega arith)
 
-not-sheet : (c : Call) → R.Writable c → ¬ (callText c ≡ sheetCallText)
-not-sheet c r e = made-sheet (sym (call-back c (to-line c r)) ∙ ap call e ∙ sheet-back)
+not-sheet : (c : Call) → Writable c → ¬ (callText c ≡ sheetCallText)
+not-sheet c r e = made-sheet (sym (call-back c r) ∙ ap call e ∙ sheet-back)
 
 pub calls-alike : (d₁ d₂ : Driver) → Invariant d₁ → Invariant d₂ → SameAnswers d₁ d₂ → C.SameAnswers d₁ d₂
 unfolding R.answers answers turnOf made lineText sheetCallText Bytes
 calls-alike d₁ d₂ v₁ v₂ s [] r = refl
 calls-alike d₁ d₂ v₁ v₂ s (c ∷ cs) r =
-    let q = call-back c (to-line c (r .0)) in
+    let q = call-back c (r .0) in
     let h : (es : List Entry) → Further es → (answerLine (step d₁ c .answer) ∷ answers (step d₁ c .driver) es) ≡ (answerLine (step d₂ c .answer) ∷ answers (step d₂ c .driver) es)
     = λ es n. rw q at (s (lineOf c ∷ es) (bytes-call c, one-line-call c, tt, not-sheet c (r .0), n)) in
     ap₂ _∷_

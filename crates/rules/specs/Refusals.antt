@@ -12,7 +12,7 @@ use Rattle.head_current.specs.Heads.{delivery}
 use Rattle.head_life.specs.State.{withStats}
 use Rattle.head_waits.specs.Parts.{waiterAt}
 use Rattle.script_call.specs.Calls.{call}
-use Rattle.script_call.specs.Ranges.{Writable}
+use Rattle.head_call.specs.Ranges.{Writable}
 use Rattle.script_call.specs.Texts.{callText}
 use Rattle.text.specs.Ascii.{ascii}
 use Rattle.head_anchor.specs.declared.bal_prefetch.BalSkip.{BalSkip}

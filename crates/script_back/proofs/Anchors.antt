@@ -2,13 +2,12 @@
 use Prim.Native.Nat.{ℕ}
 use native.Mathlib.Omega.{arith}
 use mathlib.Core.Bool.{false}
-use mathlib.Core.List.{List, [], _++_, append-assoc}
+use mathlib.Core.List.{List, _++_, append-assoc}
 use mathlib.Core.Path.{_≡_, refl}
 use lib.ListN.{length}
 use Rattle.hash_text.proofs.Back.{hash-back, hash-says, sheet-hash-back, sheet-hash-says}
-use Rattle.hash_text.specs.Ranges.{HashFits}
+use Rattle.hash.specs.Ranges.{HashFits, Fits}
 use Rattle.head_anchor.specs.Values.{anchorValue, blockHashValue, slotValue}
-use Rattle.head_anchor.specs.Words.{Word}
 use Rattle.head_driver.specs.Answers.{statsValues}
 use Rattle.script_value.specs.Texts.{spacedText, statsText}
 use Rattle.value_text.specs.Texts.{anchorText, blockHashText, slotText}
@@ -25,7 +24,8 @@ use Rattle.head_anchor.specs.declared.storage_memo.BlockHash.{BlockHash}
 use Rattle.head_anchor.specs.declared.storage_memo.ReadAnchor.{ReadAnchor}
 use Rattle.head_count.specs.declared.head_lifecycle.HeadStats.{HeadStats}
 use Rattle.value_text.specs.declared.page.Page.{Page}
-use Rattle.script_back.specs.Ranges.{AnchorFits, BlockHashFits, Fits, SlotFits, StatsFit}
+use Rattle.head_anchor.specs.Ranges.{AnchorFits, BlockHashFits, SlotFits}
+use Rattle.head_count.specs.Ranges.{StatsFit}
 use Rattle.script_back.specs.Reads.{got, map, orWord, readAnchor, readBlockHash, readHashOn, readSlot, readStats, spacedNumber}
 use Rattle.script_back.proofs.Keywords.{open-miss, word-hit}
 
@@ -84,4 +84,4 @@ stats-form s t = simp (append-assoc)
 
 pub stats-back : (s : HeadStats) (t : List ℕ) → StatsFit s → run t ≡ 0 → readStats (at (statsText s ++ t)) ≡ got s (at t)
 unfolding readStats
-stats-back s t f z = rw (stats-form s t) (simp (spaced-back, spaced-run, f .delivered, f .repeated, f .superseded, f .settled, f .already-current, f .discarded, f .ready-views, f .cold-views))
+stats-back s t f z = rw (stats-form s t) (simp (spaced-back, spaced-run, f .0, f .1, f .2, f .3, f .4, f .5, f .6, f .7))

@@ -6,7 +6,7 @@ use mathlib.Core.Path.{_≡_, refl}
 use lib.ListN.{length}
 use Rattle.text.proofs.Back.{past-back, says-back}
 use Rattle.text.proofs.Same.{same-refl}
-use Rattle.text.specs.Rests.{Rest, Took, at, says, wordHere}
+use Rattle.text.specs.Rests.{Took, at, says, wordHere}
 use Rattle.text.specs.Same.{sameText}
 use Rattle.text.specs.Words.{inWord, run, word}
 use Rattle.script_back.specs.Reads.{got, orWord}

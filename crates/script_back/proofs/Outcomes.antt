@@ -25,7 +25,10 @@ use Rattle.head_ready.specs.declared.head_lifecycle.HeadCold.{HeadCold}
 use Rattle.head_ready.specs.declared.head_lifecycle.HeadReadiness.{HeadReadiness}
 use Rattle.head_ready.specs.declared.head_lifecycle.Source.{Source}
 use Rattle.script_back.specs.Outcomes.{readCold, readEnd, readFault, readFaulty, readLink, readMade, readNote, readOutcome, readReadiness, readReport, readSkip, readSource}
-use Rattle.script_back.specs.Ranges.{Fits, OutcomeFits, ReadinessFits, ReportFits, SkipFits}
+use Rattle.hash.specs.Ranges.{Fits}
+use Rattle.head_anchor.specs.Ranges.{OutcomeFits, SkipFits}
+use Rattle.head_ready.specs.Ranges.{ReadinessFits}
+use Rattle.head_current.specs.Ranges.{ReportFits}
 use Rattle.script_back.specs.Reads.{got, map, then}
 use Rattle.script_back.proofs.Anchors.{spaced-back, spaced-run}
 use Rattle.script_back.proofs.Keywords.{open-miss, word-hit, word-miss}

@@ -1,4 +1,3 @@
--- What is read of a value's text: Reads, of anchors and counters; Outcomes, of what holds no hash. Ranges says which values have a text of their own.
-pub mod Ranges
+-- What is read of a value's text: Reads, of anchors and counters; Outcomes, of what holds no hash.
 pub mod Reads
 pub mod Outcomes

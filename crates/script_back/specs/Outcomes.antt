@@ -1,5 +1,4 @@
 -- Reading links, skips, outcomes, reports, readiness, sources and ends from the front of a text, with a failure that stays.
-use mathlib.Core.List.{List}
 use Rattle.hash.specs.Logic.{if}
 use Rattle.head_anchor.specs.Words.{Word}
 use Rattle.value_text.specs.Words.{wordText}

@@ -14,7 +14,7 @@ use Rattle.text.proofs.Back.{word-back, past-back}
 use Rattle.call_value.proofs.Back.{spaced-number-back, spaced-hash-back, spaced-anchor-back, spaced-slot-back, spaced-skip-back}
 use Rattle.script_call.specs.Calls.{ends, closed, spacedTicket, spacedList, readDeliver, readClaim, readRelease, readApply, readSnapshot, readWait, readResume, readCompletion, readLink, readReport, readStats, readHeads, readSheet, callNamed, laterNamed, callHere, call}
 use Rattle.script_call.specs.Texts.{callText, sheetCallText}
-use Rattle.script_call.specs.Ranges.{Writable}
+use Rattle.head_call.specs.Ranges.{Writable}
 use Rattle.script_call.specs.declared.LineCall.{LineCall}
 use Rattle.script_call.proofs.Lengths.{length-call}
 

@@ -18,7 +18,7 @@ use Rattle.call_value.proofs.Ranges.{chosen}
 use Rattle.call_value.proofs.Only.{after-only, past-only, spaced-number-only, spaced-hash-only, spaced-anchor-only, spaced-slot-only, spaced-skip-only}
 use Rattle.script_call.specs.Calls.{ends, closed, spacedTicket, spacedList, readDeliver, readClaim, readRelease, readApply, readSnapshot, readWait, readResume, readCompletion, readLink, readReport, readStats, readHeads, readSheet, callNamed, laterNamed, callHere, call}
 use Rattle.script_call.specs.Texts.{callText, sheetCallText}
-use Rattle.script_call.specs.Ranges.{Writable}
+use Rattle.head_call.specs.Ranges.{Writable}
 use Rattle.script_call.specs.declared.LineCall.{LineCall}
 use Rattle.script_call.proofs.Back.{call-back}
 use Rattle.script_call.proofs.Ranges.{call-range}

@@ -1,22 +1,6 @@
 -- The calls that a line can write: each of their numbers, and each word of their hashes, is below 2^64.
-use Rattle.head_call.specs.declared.head_lifecycle.Call.{Call}
-use Rattle.hash_text.specs.Ranges.{HashFits}
-use Rattle.call_value.specs.Ranges.{Fits, AnchorFits, SlotFits, SkipFits}
 use Rattle.script_call.specs.declared.LineCall.{LineCall}
-
-abbrev pub Writable : Call → Type 0
-Writable (Call.Deliver a p cold) = AnchorFits a × HashFits p × Fits cold
-Writable (Call.Claim ticket) = AnchorFits (ticket .anchor) × Fits (ticket .seq .0)
-Writable (Call.Release owner) = Fits (owner .seq .0) × Fits (owner .epoch .0)
-Writable (Call.Apply ticket list handle carried made) = AnchorFits (ticket .anchor) × Fits (ticket .seq .0) × AnchorFits (list .anchor) × SkipFits (list .skip) × Fits handle × Fits carried × Fits made
-Writable (Call.Snapshot a spare) = AnchorFits a × Fits spare
-Writable (Call.Wait n a spare) = Fits n × AnchorFits a × Fits spare
-Writable (Call.Resume n spare) = Fits n × Fits spare
-Writable (Call.Completion a) = AnchorFits a
-Writable (Call.Link parent child parent-hash) = SlotFits parent × AnchorFits child × HashFits parent-hash
-Writable Call.Report = Unit {0}
-Writable Call.Stats = Unit {0}
-Writable Call.Heads = Unit {0}
+use Rattle.head_call.specs.Ranges.{Writable}
 
 -- of what a line asks for
 abbrev pub LineWritable : LineCall → Type 0

@@ -1,25 +1,26 @@
 -- The lines of the lifecycle are read back.
 use Prim.Native.Nat.{ℕ}
-use mathlib.Core.List.{List, [], _++_, append-assoc}
-use mathlib.Core.Path.{_≡_, refl, ap, _∙_}
+use mathlib.Core.List.{List, _++_, append-assoc}
+use mathlib.Core.Path.{_≡_, refl, _∙_}
 use lib.ListN.{length}
+use Rattle.head_ready.specs.Ranges.{GenerationFits, GenerationSlotFits}
+use Rattle.head_current.specs.Ranges.{DeliveryFits, HeadFits, SettledFits, UnsettledFits}
 use Rattle.alike.specs.Canon.{shownHead}
 use Rattle.alike.specs.Invariant.{OpenOrAbandoned, WhenUnclaimed}
-use Rattle.alike.specs.Ranges as A
 use Rattle.head_count.specs.Counters.{seqOf}
 use Rattle.head_deliver.specs.Delivered.{deliveryOf}
 use Rattle.script_back.proofs.Anchors.{anchor-back, anchor-form, hash-on-back, slot-back, spaced-back, spaced-run, stats-back}
 use Rattle.script_back.proofs.Keywords.{open-miss, word-hit, word-miss}
 use Rattle.script_back.proofs.Outcomes.{readiness-back, report-back}
-use Rattle.script_back.specs.Ranges.{AnchorFits, Fits, ReadinessFits, ReportFits, SlotFits, StatsFit}
-use Rattle.script_back.specs.Reads.{got, readAnchor, then}
+use Rattle.head_anchor.specs.Ranges.{SlotFits}
+use Rattle.hash.specs.Ranges.{Fits}
+use Rattle.head_count.specs.Ranges.{StatsFit}
+use Rattle.script_back.specs.Reads.{got, then}
 use Rattle.script_outcome.specs.Texts.{readinessText, reportText}
 use Rattle.script_value.specs.Texts.{spacedText, statsText}
-use Rattle.value_text.specs.Texts.{anchorText, slotText}
-use Rattle.value_text.specs.Values.{hashText}
+use Rattle.value_text.specs.Texts.{anchorText}
 use Rattle.value_text.specs.Words.{wordText}
 use Rattle.sheet_lines.specs.Lines.{countLine, currentLine, deliveryText, generationText, installedLine, poseText, previousLine, supersededLine, unsettledText}
-use Rattle.hash_text.specs.Ranges.{HashFits}
 use Rattle.text.proofs.Back.{past-back, word-back}
 use Rattle.text.specs.Ascii.{ascii}
 use Rattle.text.specs.Rests.{after, at, step}
@@ -37,7 +38,6 @@ use Rattle.head_ready.specs.declared.delta_snapshot.Generation.{Generation}
 use Rattle.head_ready.specs.declared.delta_snapshot.GenerationSlot.{GenerationSlot}
 use Rattle.value_text.specs.declared.page.Page.{Page}
 use Rattle.sheet_back.specs.Heads.{headNamed, readCount, readCurrent, readDelivery, readGeneration, readHeld, readInstalled, readPose, readPreparing, readPrevious, readSettled, readSuperseded, readUnclaimed}
-use Rattle.sheet_back.proofs.Ranges.{anchor-range, hash-range, readiness-range, report-range}
 
 -- ---- count
 
@@ -51,11 +51,11 @@ count-back s e t f g = rw (count-form s e t) (simp (stats-back, spaced-run, spac
 
 -- ---- current
 
-delivery-back : (n : ℕ) (held : HeadDelivery) (t : List ℕ) → A.DeliveryFits held → run t ≡ 0 → readDelivery n (at (deliveryText held ++ t)) ≡ got (deliveryOf (held .anchor) (held .«parent_hash») (seqOf n)) (at t)
+delivery-back : (n : ℕ) (held : HeadDelivery) (t : List ℕ) → DeliveryFits held → run t ≡ 0 → readDelivery n (at (deliveryText held ++ t)) ≡ got (deliveryOf (held .anchor) (held .«parent_hash») (seqOf n)) (at t)
 unfolding readDelivery deliveryText after step
 delivery-back n held t f z =
-    let fa = anchor-range (held .anchor) (f .anchor) in
-    let fh = hash-range (held .«parent_hash») (f .parent-hash) in
+    let fa = f .anchor in
+    let fh = f .parent-hash in
     simp (append-assoc, anchor-back, hash-on-back)
 
 pose-back : (end : HeadCompletion) (t : List ℕ) → OpenOrAbandoned end → run t ≡ 0 → readPose (at (poseText end ++ t)) ≡ got end (at t)
@@ -74,7 +74,7 @@ module _ (n : ℕ) (e : Epoch) where
   abbrev Line : List ℕ → List ℕ → CurrentHead → List ℕ → Type 0
   Line w s c t = readCurrent n e (at (ascii "(current " ++ (w ++ s))) ≡ got c (at t)
 
-  module _ (u : UnsettledHead) (t : List ℕ) (f : A.UnsettledFits u) where
+  module _ (u : UnsettledHead) (t : List ℕ) (f : UnsettledFits u) where
     unclaimed-form : currentLine (CurrentHead.Unclaimed u) ++ t ≡ ascii "(current " ++ (ascii "unclaimed" ++ (ascii " " ++ (deliveryText (u .delivery) ++ (spacedText (u .provisional) ++ (ascii " " ++ (poseText (u .attempt .end) ++ (ascii ")\n" ++ t)))))))
     unfolding currentLine unsettledText
     unclaimed-form = simp append-assoc
@@ -106,7 +106,7 @@ module _ (n : ℕ) (e : Epoch) where
     unfolding run inWord
     preparing-back = rw preparing-form (named (ascii "preparing") _ refl refl ∙ preparing-named)
 
-  module _ (s : SettledHead) (t : List ℕ) (f : A.SettledFits s) where
+  module _ (s : SettledHead) (t : List ℕ) (f : SettledFits s) where
     settled-form : currentLine (CurrentHead.Settled s) ++ t ≡ ascii "(current " ++ (ascii "settled" ++ (ascii " " ++ (deliveryText (s .delivery) ++ (ascii " " ++ (reportText (s .report) ++ (ascii ")\n" ++ t))))))
     unfolding currentLine
     settled-form = simp append-assoc
@@ -115,7 +115,7 @@ module _ (n : ℕ) (e : Epoch) where
     unfolding headNamed readSettled shownHead sameText then after step run inWord
     settled-named =
         let fd = f .delivery in
-        let fr = report-range (s .report) (f .report) in
+        let fr = f .report in
         simp (delivery-back, report-back)
 
     settled-back : readCurrent n e (at (currentLine (CurrentHead.Settled s) ++ t)) ≡ got (shownHead n e (CurrentHead.Settled s)) (at t)
@@ -126,7 +126,7 @@ module _ (n : ℕ) (e : Epoch) where
   unfolding currentLine headNamed shownHead sameText then after step run inWord
   absent-back t = named (ascii "none") (ascii ")\n" ++ t) refl refl
 
-  pub current-back : (c : CurrentHead) (t : List ℕ) → A.HeadFits c → WhenUnclaimed c (λ u. OpenOrAbandoned (u .attempt .end)) → readCurrent n e (at (currentLine c ++ t)) ≡ got (shownHead n e c) (at t)
+  pub current-back : (c : CurrentHead) (t : List ℕ) → HeadFits c → WhenUnclaimed c (λ u. OpenOrAbandoned (u .attempt .end)) → readCurrent n e (at (currentLine c ++ t)) ≡ got (shownHead n e c) (at t)
   current-back CurrentHead.Absent t f h = absent-back t
   current-back (CurrentHead.Unclaimed u) t f h = unclaimed-back u t f h
   current-back (CurrentHead.Preparing u) t f h = preparing-back u t f
@@ -144,15 +144,15 @@ held-form : (g : Generation) (t : List ℕ) → generationText (GenerationSlot.H
 unfolding generationText
 held-form g t = simp append-assoc
 
-held-back : (g : Generation) (t : List ℕ) → A.GenerationFits g → run t ≡ 0 → readHeld (at (generationText (GenerationSlot.Held g) ++ t)) ≡ got (GenerationSlot.Held g) (at t)
+held-back : (g : Generation) (t : List ℕ) → GenerationFits g → run t ≡ 0 → readHeld (at (generationText (GenerationSlot.Held g) ++ t)) ≡ got (GenerationSlot.Held g) (at t)
 unfolding readHeld after step run inWord
 held-back g t f z =
-    let fa = anchor-range (g .anchor) (f .anchor) in
+    let fa = f .anchor in
     let fh = f .handle in
-    let fr = readiness-range (g .readiness) (f .readiness) in
+    let fr = f .readiness in
     rw (held-form g t) (simp (anchor-back, spaced-back, readiness-back))
 
-generation-back : (g : GenerationSlot) (t : List ℕ) → A.GenerationSlotFits g → run t ≡ 0 → readGeneration (at (generationText g ++ t)) ≡ got g (at t)
+generation-back : (g : GenerationSlot) (t : List ℕ) → GenerationSlotFits g → run t ≡ 0 → readGeneration (at (generationText g ++ t)) ≡ got g (at t)
 unfolding readGeneration generationText wordText run inWord
 generation-back GenerationSlot.Nothing t f z = word-hit _ _ t z (ascii "none") refl
 generation-back (GenerationSlot.Held g) t f z = held-open g t ∙ held-back g t f z
@@ -160,10 +160,10 @@ generation-back (GenerationSlot.Held g) t f z = held-open g t ∙ held-back g t 
     held-open : (g : Generation) (t : List ℕ) → readGeneration (at (generationText (GenerationSlot.Held g) ++ t)) ≡ readHeld (at (generationText (GenerationSlot.Held g) ++ t))
     held-open g t = rw (held-form g t, anchor-form Page.Sheet (g .anchor)) (open-miss _ _ _ _ _)
 
-pub installed-back : (g : GenerationSlot) (t : List ℕ) → A.GenerationSlotFits g → readInstalled (at (installedLine g ++ t)) ≡ got g (at t)
+pub installed-back : (g : GenerationSlot) (t : List ℕ) → GenerationSlotFits g → readInstalled (at (installedLine g ++ t)) ≡ got g (at t)
 unfolding readInstalled installedLine then after step run inWord
 installed-back g t f = simp (append-assoc, generation-back)
 
-pub previous-back : (g : GenerationSlot) (t : List ℕ) → A.GenerationSlotFits g → readPrevious (at (previousLine g ++ t)) ≡ got g (at t)
+pub previous-back : (g : GenerationSlot) (t : List ℕ) → GenerationSlotFits g → readPrevious (at (previousLine g ++ t)) ≡ got g (at t)
 unfolding readPrevious previousLine then after step run inWord
 previous-back g t f = simp (append-assoc, generation-back)

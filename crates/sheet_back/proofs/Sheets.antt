@@ -1,23 +1,20 @@
 -- What a sheet shows is read back from it.
 use Prim.Native.Nat.{ℕ}
-use native.Mathlib.Omega.{arith}
 use mathlib.Core.List.{List, [], _∷_, _++_, append-assoc}
 use mathlib.Core.Path.{_≡_, refl, ap, sym, _∙_}
-use lib.ListN.{length}
 use Rattle.alike.specs.Canon.{canon, shownLife, shownSuperseded, shownWaiters, shownWaiter}
 use Rattle.alike.specs.Invariant.{Invariant}
 use Rattle.head_attempt.specs.declared.head_lifecycle.Waiter.{Waiter}
 use Rattle.head_attempt.specs.declared.head_lifecycle.WaiterSlot.{WaiterSlot}
 use Rattle.script_sheet.proofs.Shown.{life-shown, sheet-shown}
-use Rattle.script_sheet.specs.Sheets.{lifeLines, sheetText}
+use Rattle.script_sheet.specs.Sheets.{sheetText}
 use Rattle.sheet_lines.specs.Lines.{countLine, currentLine, installedLine, previousLine, supersededLine, waiterLines}
-use Rattle.text.specs.Rests.{at, atEnd}
+use Rattle.text.specs.Rests.{atEnd}
 use Rattle.head_driver.specs.declared.head_lifecycle.Driver.{Driver}
-use Rattle.head_life.specs.declared.head_lifecycle.HeadLifecycle.{HeadLifecycle}
 use Rattle.sheet_back.specs.Reads.{Sheet, readSheet, whole}
 use Rattle.sheet_back.specs.Statements.{EqualSheets, ReadBack}
 use Rattle.sheet_back.proofs.Lines.{count-back, current-back, installed-back, previous-back, superseded-back}
-use Rattle.sheet_back.proofs.Ranges.{stats-range, superseded-range}
+use Rattle.sheet_back.proofs.Ranges.{superseded-range}
 use Rattle.sheet_back.proofs.Waiters.{sixteen-back}
 
 -- the sheet, line by line, from the driver's own parts
@@ -61,7 +58,7 @@ unfolding readSheet lines whole atEnd canon shownLife
 lines-back d v =
     let l = d .life in
     let f = v .fits .life in
-    let fs = stats-range (l .stats) (f .stats) in
+    let fs = f .stats in
     let fe = f .epoch in
     let fc = f .current in
     let fo = v .ordered .unclaimed-end in

@@ -6,9 +6,10 @@ use mathlib.Core.List.{List, [], _∷_, _++_, append-assoc}
 use mathlib.Core.Path.{_≡_, refl, _∙_}
 use lib.ListN.{length}
 use borrow.Author.Tests.{eq-eqb, ne-eqb}
+use Rattle.head_anchor.specs.Ranges.{AnchorFits}
 use Rattle.alike.specs.Ranges as A
 use Rattle.script_back.proofs.Anchors.{anchor-back}
-use Rattle.script_back.specs.Ranges.{Fits}
+use Rattle.hash.specs.Ranges.{Fits}
 use Rattle.script_back.specs.Reads.{got, map, then}
 use Rattle.value_text.specs.Texts.{anchorText}
 use Rattle.sheet_lines.specs.Lines.{waiterLine, waiterLines}
@@ -23,7 +24,6 @@ use Rattle.head_attempt.specs.declared.head_lifecycle.Waiter.{Waiter}
 use Rattle.head_attempt.specs.declared.head_lifecycle.WaiterSlot.{WaiterSlot}
 use Rattle.value_text.specs.declared.page.Page.{Page}
 use Rattle.sheet_back.specs.Waiters.{going, names, readWaiter, readWaiterAt, readWaiters, waiterNamed}
-use Rattle.sheet_back.proofs.Ranges.{anchor-range}
 
 -- what a line of a waiter says after its number, and the number that the next line goes on with
 abbrev next : List ℕ → Took ℕ
@@ -44,14 +44,14 @@ parked-back : (t : List ℕ) → readWaiter (at (ascii " parked)\n" ++ t)) ≡ g
 unfolding waiterNamed sameText then after step run inWord
 parked-back t = named (ascii "parked") (ascii ")\n" ++ t) refl refl
 
-module _ (a : ReadAnchor) (t : List ℕ) (f : A.AnchorFits a) where
+module _ (a : ReadAnchor) (t : List ℕ) (f : AnchorFits a) where
   abandoned-named : then (ascii ")\n") (waiterNamed (ascii "abandoned") (at (ascii " " ++ (anchorText Page.Sheet a ++ (ascii ")\n" ++ t))))) ≡ got (Waiter.Abandoned a) (at t)
   unfolding waiterNamed sameText then map after step
-  abandoned-named = let fa = anchor-range a f in simp anchor-back
+  abandoned-named = let fa = f in simp anchor-back
 
   ended-named : then (ascii ")\n") (waiterNamed (ascii "ended") (at (ascii " " ++ (anchorText Page.Sheet a ++ (ascii ")\n" ++ t))))) ≡ got (Waiter.Ended a) (at t)
   unfolding waiterNamed sameText then map after step
-  ended-named = let fa = anchor-range a f in simp anchor-back
+  ended-named = let fa = f in simp anchor-back
 
   abandoned-back : readWaiter (at (ascii " abandoned " ++ (anchorText Page.Sheet a ++ (ascii ")\n" ++ t)))) ≡ got (Waiter.Abandoned a) (at t)
   unfolding run inWord
