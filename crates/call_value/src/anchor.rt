@@ -6,12 +6,12 @@ use hash_text::read_hash;
 use head_anchor::storage_memo::AnchorSlot;
 use head_anchor::storage_memo::BlockHash;
 use head_anchor::storage_memo::ReadAnchor;
-use text::decimal::take_decimal;
 use text::place::Place;
-use text::place::expect;
-use text::place::past;
-use text::place::word_from;
 use text::word::same;
+use text_decimal::take_decimal;
+use text_place::expect;
+use text_place::past;
+use text_place::word_from;
 
 // A block's hash and the place after it; unknown where reading has stopped.
 pub struct BlockHashFrom {

@@ -4,10 +4,10 @@ ghost use Rattle.text.specs.Places.{here, Reads};
 use crate::spaced::spaced_number;
 use head_anchor::bal_prefetch::BalSkip;
 use text::place::Place;
-use text::place::expect;
-use text::place::past;
-use text::place::word_from;
 use text::word::same;
+use text_place::expect;
+use text_place::past;
+use text_place::word_from;
 
 // A skip and the place after it; none where reading has stopped.
 pub struct SkipFrom {

@@ -10,9 +10,9 @@ use crate::skip::take_skip;
 use hash_text::HashFrom;
 use hash_text::take_hash;
 use text::decimal::NumberFrom;
-use text::decimal::take_decimal;
 use text::place::Place;
-use text::place::expect;
+use text_decimal::take_decimal;
+use text_place::expect;
 
 // A delivery number, an epoch, a waiter's number, or a number of the host's.
 pub fn spaced_number(line: &[u8], from: Place) -> NumberFrom

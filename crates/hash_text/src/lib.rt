@@ -12,8 +12,8 @@ ghost use Rattle.text.specs.Writes.{Wrote};
 use hash::Hash;
 use text::decimal::Number;
 use text::place::Place;
-use text::place::past;
-use text::place::word_from;
+use text_place::past;
+use text_place::word_from;
 use text_put::put::put;
 
 // What a byte says as a hexadecimal digit.

@@ -18,9 +18,9 @@ use head_ready::delta_snapshot::GenerationSlot;
 use libc::STDOUT_FILENO;
 use pending::keep;
 use script::finish;
-use text::decimal::take_decimal;
 use text::place::Place;
 use text::word::same;
+use text_decimal::take_decimal;
 use text_put::put::put;
 
 // What was counted.
@@ -264,8 +264,7 @@ fn record_taken(d: Driver, s: Standing, line: &[u8], want: &mut [u8], out: &mut 
 
 // What was read, up to the end of a line or to its end.
 fn line_taken(
-    d: Driver,
-    s: Standing,
+    start: Replay,
     pending: &mut [u8],
     input: &[u8],
     want: &mut [u8],
@@ -273,25 +272,21 @@ fn line_taken(
 ) -> Replay
     requires { ⌜ 513 ≤ length (now pending) ⌝ }
 {
+    let mut s = start.standing;
     let kept = keep(pending, s.held, input, s.at);
-    let now = Standing {
-        held: kept.held,
-        at: kept.at,
-        ..s
-    };
+    s.held = kept.held;
+    s.at = kept.at;
     if kept.ended {
-        return record_taken(d, now, pending, want, out);
+        return record_taken(start.driver, s, pending, want, out);
     }
-    Replay {
-        driver: d,
-        standing: now,
-    }
+    let mut next = start;
+    next.standing = s;
+    next
 }
 
 // All that was read. Each turn takes a byte at least, so there are no more turns than bytes.
 fn lines_taken(
-    d: Driver,
-    s: Standing,
+    start: Replay,
     pending: &mut [u8],
     input: &[u8],
     want: &mut [u8],
@@ -299,38 +294,28 @@ fn lines_taken(
 ) -> Replay
     requires { ⌜ 513 ≤ length (now pending) ⌝ }
 {
-    let mut now = Replay {
-        driver: d,
-        standing: s,
-    };
+    let mut now = start;
     let mut turns = input.len();
     while turns > 0 && now.standing.at < input.len() {
-        now = line_taken(now.driver, now.standing, pending, input, want, out);
+        now = line_taken(now, pending, input, want, out);
         turns -= 1;
     }
     now
 }
 
 // Reads once.
-fn read_some(
-    fd: i32,
-    d: Driver,
-    s: Standing,
-    pending: &mut [u8],
-    want: &mut [u8],
-    out: &mut [u8],
-) -> Replay
+fn read_some(fd: i32, start: Replay, pending: &mut [u8], want: &mut [u8], out: &mut [u8]) -> Replay
     requires { ⌜ 513 ≤ length (now pending) ⌝ }
 {
     let mut input = io::large_buffer();
     let got = libc::read(fd, &mut input);
     let n = io::count(got, &input);
-    let now = Standing {
-        at: 0,
-        more: n > 0,
-        ..s
-    };
-    lines_taken(d, now, pending, &input[..n], want, out)
+    let mut s = start.standing;
+    s.at = 0;
+    s.more = n > 0;
+    let mut now = start;
+    now.standing = s;
+    lines_taken(now, pending, &input[..n], want, out)
 }
 
 fn print(t: Tally) {
@@ -364,14 +349,7 @@ fn counted(fd: i32) -> Tally {
     };
     let mut turns = u64::MAX;
     while turns > 0 && now.standing.more {
-        now = read_some(
-            fd,
-            now.driver,
-            now.standing,
-            &mut pending,
-            &mut want,
-            &mut out,
-        );
+        now = read_some(fd, now, &mut pending, &mut want, &mut out);
         turns -= 1;
     }
     now.standing.tally

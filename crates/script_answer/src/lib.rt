@@ -8,16 +8,19 @@ ghost use Rattle.script_value.specs.Buffers.{AtFront};
 ghost use Rattle.text.specs.Writes.{Wrote};
 use crate::lines::put_claimed;
 use crate::lines::put_completion;
+use crate::lines::put_done;
 use crate::lines::put_heads;
 use crate::lines::put_link_line;
+use crate::lines::put_parked;
 use crate::lines::put_report_line;
 use crate::lines::put_stats_line;
 use crate::lines::put_ticket;
 use crate::lines::put_view;
 use crate::refusals::put_head_outcome;
+use crate::refusals::put_refused;
 use head_driver::head_lifecycle::Answer;
 use script_value::buffer::Written;
-use text_put::put::put;
+use text_put::put::put_byte;
 
 mod lines;
 mod refusals;
@@ -32,10 +35,10 @@ pub(crate) fn put_text(buf: &mut [u8], at: usize, answer: Answer) -> usize
     match answer {
         Answer::Ticket(seq) => put_ticket(buf, at, seq),
         Answer::Claimed(epoch) => put_claimed(buf, at, epoch),
-        Answer::Done => put(buf, at, b"(done)"),
+        Answer::Done => put_done(buf, at),
         Answer::Outcome(outcome) => put_head_outcome(buf, at, outcome),
         Answer::View(view) => put_view(buf, at, view),
-        Answer::Parked => put(buf, at, b"(parked)"),
+        Answer::Parked => put_parked(buf, at),
         Answer::Completion(end) => put_completion(buf, at, end),
         Answer::Link(link) => put_link_line(buf, at, link),
         Answer::Report(report) => put_report_line(buf, at, report),
@@ -47,10 +50,10 @@ pub(crate) fn put_text(buf: &mut [u8], at: usize, answer: Answer) -> usize
             installed,
             previous,
         ),
-        Answer::ListAtOdds => put(buf, at, b"(refused 2)"),
-        Answer::WaiterOutOfRange => put(buf, at, b"(refused 3)"),
-        Answer::WaiterTaken => put(buf, at, b"(refused 15)"),
-        Answer::WaiterFree => put(buf, at, b"(refused 16)"),
+        Answer::ListAtOdds => put_refused(buf, at, 2),
+        Answer::WaiterOutOfRange => put_refused(buf, at, 3),
+        Answer::WaiterTaken => put_refused(buf, at, 15),
+        Answer::WaiterFree => put_refused(buf, at, 16),
     }
 }
 
@@ -63,6 +66,6 @@ pub fn put_answer(buf: &mut [u8], answer: Answer) -> Written
         return Written::TooShort;
     }
     let i = put_text(buf, 0, answer);
-    let end = put(buf, i, b"\n");
+    let end = put_byte(buf, i, b'\n');
     Written::Bytes(end)
 }

@@ -15,11 +15,12 @@ use head_count::head_lifecycle::HeadStats;
 use head_count::head_lifecycle::Seq;
 use head_current::head_lifecycle::LastReport;
 use head_ready::head_lifecycle::HeadView;
-use script_outcome::outcome::put_report;
-use script_outcome::view::put_readiness;
+use script_ready::readiness::put_readiness;
+use script_ready::report::put_report;
 use script_value::counters::put_stats;
 use text_put::decimal::put_decimal;
 use text_put::put::put;
+use text_put::put::put_byte;
 use value_text::anchor::put_slot;
 use value_text::page::Page;
 
@@ -30,7 +31,7 @@ pub(crate) fn put_ticket(buf: &mut [u8], at: usize, seq: Seq) -> usize
 {
     let i = put(buf, at, b"(ticket ");
     let j = put_decimal(buf, i, seq.0);
-    put(buf, j, b")")
+    put_byte(buf, j, b')')
 }
 
 pub(crate) fn put_claimed(buf: &mut [u8], at: usize, epoch: Epoch) -> usize
@@ -40,7 +41,23 @@ pub(crate) fn put_claimed(buf: &mut [u8], at: usize, epoch: Epoch) -> usize
 {
     let i = put(buf, at, b"(claimed ");
     let j = put_decimal(buf, i, epoch.0);
-    put(buf, j, b")")
+    put_byte(buf, j, b')')
+}
+
+pub(crate) fn put_done(buf: &mut [u8], at: usize) -> usize
+    requires { ⌜ at + 6 ≤ length (now buf) ⌝ }
+    ensures { λ r. ⌜ Wrote (now (buf .entry)) (now (buf .exit)) at r (answerText Answer.Done) ⌝ }
+    ensures { λ r. ⌜ r ≤ at + 6 ⌝ }
+{
+    put(buf, at, b"(done)")
+}
+
+pub(crate) fn put_parked(buf: &mut [u8], at: usize) -> usize
+    requires { ⌜ at + 8 ≤ length (now buf) ⌝ }
+    ensures { λ r. ⌜ Wrote (now (buf .entry)) (now (buf .exit)) at r (answerText Answer.Parked) ⌝ }
+    ensures { λ r. ⌜ r ≤ at + 8 ⌝ }
+{
+    put(buf, at, b"(parked)")
 }
 
 // The one place where what follows a view's handle is written.
@@ -53,11 +70,11 @@ pub(crate) fn put_view(buf: &mut [u8], at: usize, view: HeadView) -> usize
     let readiness = view.readiness;
     let i = put(buf, at, b"(view ");
     let j = put_source(buf, i, source);
-    let k = put(buf, j, b" ");
+    let k = put_byte(buf, j, b' ');
     let l = put_decimal(buf, k, view.handle);
-    let m = put(buf, l, b" ");
+    let m = put_byte(buf, l, b' ');
     let n = put_readiness(buf, m, readiness);
-    put(buf, n, b")")
+    put_byte(buf, n, b')')
 }
 
 pub(crate) fn put_completion(buf: &mut [u8], at: usize, end: HeadCompletion) -> usize
@@ -67,7 +84,7 @@ pub(crate) fn put_completion(buf: &mut [u8], at: usize, end: HeadCompletion) -> 
 {
     let i = put(buf, at, b"(completion ");
     let j = put_end(buf, i, end);
-    put(buf, j, b")")
+    put_byte(buf, j, b')')
 }
 
 pub(crate) fn put_link_line(buf: &mut [u8], at: usize, link: Link) -> usize
@@ -77,7 +94,7 @@ pub(crate) fn put_link_line(buf: &mut [u8], at: usize, link: Link) -> usize
 {
     let i = put(buf, at, b"(link ");
     let j = put_link(buf, i, link);
-    put(buf, j, b")")
+    put_byte(buf, j, b')')
 }
 
 pub(crate) fn put_report_line(buf: &mut [u8], at: usize, report: LastReport) -> usize
@@ -87,7 +104,7 @@ pub(crate) fn put_report_line(buf: &mut [u8], at: usize, report: LastReport) -> 
 {
     let i = put(buf, at, b"(report ");
     let j = put_report(buf, i, report);
-    put(buf, j, b")")
+    put_byte(buf, j, b')')
 }
 
 pub(crate) fn put_stats_line(buf: &mut [u8], at: usize, stats: HeadStats) -> usize
@@ -97,7 +114,7 @@ pub(crate) fn put_stats_line(buf: &mut [u8], at: usize, stats: HeadStats) -> usi
 {
     let i = put(buf, at, b"(stats");
     let j = put_stats(buf, i, stats);
-    put(buf, j, b")")
+    put_byte(buf, j, b')')
 }
 
 pub(crate) fn put_heads(
@@ -113,9 +130,9 @@ pub(crate) fn put_heads(
 {
     let i = put(buf, at, b"(heads ");
     let j = put_slot(buf, i, Page::Line, current);
-    let k = put(buf, j, b" ");
+    let k = put_byte(buf, j, b' ');
     let l = put_slot(buf, k, Page::Line, installed);
-    let m = put(buf, l, b" ");
+    let m = put_byte(buf, l, b' ');
     let n = put_slot(buf, m, Page::Line, previous);
-    put(buf, n, b")")
+    put_byte(buf, n, b')')
 }

@@ -1,16 +1,32 @@
 // The answers of an apply or a claim: what it settled, or why the state turned it away.
 ghost use Prim.Native.Nat.{_+_, _≤_};
+ghost use mathlib.Core.List.{_++_};
 ghost use lib.ListN.{length};
 ghost use Rattle.script_answer.specs.Lines.{answerText};
+ghost use Rattle.text.specs.Ascii.{ascii};
+ghost use Rattle.text.specs.Decimals.{decimal};
 ghost use Rattle.text.specs.Writes.{Wrote};
 ghost use Rattle.head_driver.specs.declared.head_lifecycle.Answer.{Answer};
 use head_anchor::read_hub::CarryOutcome;
 use head_anchor::storage_memo::ReadAnchor;
 use head_ready::head_lifecycle::HeadOutcome;
-use script_outcome::outcome::put_outcome;
+use script_outcome::put_outcome;
+use text_put::decimal::put_decimal;
 use text_put::put::put;
+use text_put::put::put_byte;
 use value_text::anchor::put_anchor;
 use value_text::page::Page;
+
+// Puts a refusal that names nothing but its number.
+pub(crate) fn put_refused(buf: &mut [u8], at: usize, n: u64) -> usize
+    requires { ⌜ at + 30 ≤ length (now buf) ⌝ }
+    ensures { λ r. ⌜ Wrote (now (buf .entry)) (now (buf .exit)) at r (ascii "(refused " ++ (decimal n ++ ascii ")")) ⌝ }
+    ensures { λ r. ⌜ r ≤ at + 30 ⌝ }
+{
+    let i = put(buf, at, b"(refused ");
+    let j = put_decimal(buf, i, n);
+    put_byte(buf, j, b')')
+}
 
 pub(crate) fn put_settled(buf: &mut [u8], at: usize, outcome: CarryOutcome) -> usize
     requires { ⌜ at + 62 ≤ length (now buf) ⌝ }
@@ -19,7 +35,7 @@ pub(crate) fn put_settled(buf: &mut [u8], at: usize, outcome: CarryOutcome) -> u
 {
     let i = put(buf, at, b"(settled ");
     let j = put_outcome(buf, i, outcome);
-    put(buf, j, b")")
+    put_byte(buf, j, b')')
 }
 
 pub(crate) fn put_superseded(buf: &mut [u8], at: usize, anchor: ReadAnchor) -> usize
@@ -29,7 +45,7 @@ pub(crate) fn put_superseded(buf: &mut [u8], at: usize, anchor: ReadAnchor) -> u
 {
     let i = put(buf, at, b"(refused 11 ");
     let j = put_anchor(buf, i, Page::Line, anchor);
-    put(buf, j, b")")
+    put_byte(buf, j, b')')
 }
 
 pub(crate) fn put_foreign(buf: &mut [u8], at: usize, list: ReadAnchor, held: ReadAnchor) -> usize
@@ -39,9 +55,9 @@ pub(crate) fn put_foreign(buf: &mut [u8], at: usize, list: ReadAnchor, held: Rea
 {
     let i = put(buf, at, b"(refused 12 ");
     let j = put_anchor(buf, i, Page::Line, list);
-    let k = put(buf, j, b" ");
+    let k = put_byte(buf, j, b' ');
     let l = put_anchor(buf, k, Page::Line, held);
-    put(buf, l, b")")
+    put_byte(buf, l, b')')
 }
 
 pub(crate) fn put_head_outcome(buf: &mut [u8], at: usize, outcome: HeadOutcome) -> usize
@@ -51,8 +67,8 @@ pub(crate) fn put_head_outcome(buf: &mut [u8], at: usize, outcome: HeadOutcome) 
 {
     match outcome {
         HeadOutcome::Settled(settled) => put_settled(buf, at, settled),
-        HeadOutcome::AlreadySettled => put(buf, at, b"(refused 13)"),
-        HeadOutcome::InFlight => put(buf, at, b"(refused 14)"),
+        HeadOutcome::AlreadySettled => put_refused(buf, at, 13),
+        HeadOutcome::InFlight => put_refused(buf, at, 14),
         HeadOutcome::Superseded(anchor) => put_superseded(buf, at, anchor),
         HeadOutcome::Foreign(list, held) => put_foreign(buf, at, list, held),
     }

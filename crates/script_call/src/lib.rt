@@ -16,10 +16,10 @@ use head_current::head_lifecycle::HeadTicket;
 use head_current::head_lifecycle::PrepareClaim;
 use line_reader::word_from;
 use text::place::Place;
-use text::place::at_end;
-use text::place::expect;
-use text::place::past;
 use text::word::same;
+use text_place::at_end;
+use text_place::expect;
+use text_place::past;
 
 // What a line asks for. The sheet is no call on the driver: it is written into the caller's buffer.
 pub enum LineCall {

@@ -1,4 +1,81 @@
-// Outcomes, reports and readiness as text, into a lent buffer, for lines and sheets alike: one writer for each value.
-// No hash stands in any of them, so their text is the same on a line and on a sheet.
-pub mod outcome;
-pub mod view;
+// Outcomes as text, into a lent buffer, for lines and sheets alike: one writer for each value.
+// No hash stands in an outcome, so its text is the same on a line and on a sheet. Knows nothing of what holds an outcome.
+ghost use Prim.Native.Nat.{_+_, _≤_};
+ghost use mathlib.Core.List.{_++_};
+ghost use lib.ListN.{length};
+ghost use Rattle.script_outcome.specs.Texts.{faultText, coldText, outcomeText};
+ghost use Rattle.value_text.specs.Texts.{skipText};
+ghost use Rattle.text.specs.Ascii.{ascii};
+ghost use Rattle.text.specs.Decimals.{decimal};
+ghost use Rattle.text.specs.Writes.{Wrote};
+use head_anchor::bal_prefetch::BalSkip;
+use head_anchor::read_hub::CarryOutcome;
+use head_anchor::read_hub::Link;
+use text_put::decimal::put_decimal;
+use text_put::put::put;
+use text_put::put::put_byte;
+
+// Puts what is wrong with a link, or `none`.
+pub(crate) fn put_fault(buf: &mut [u8], at: usize, link: Link) -> usize
+    requires { ⌜ at + 15 ≤ length (now buf) ⌝ }
+    ensures { λ r. ⌜ Wrote (now (buf .entry)) (now (buf .exit)) at r (faultText link) ⌝ }
+    ensures { λ r. ⌜ r ≤ at + 15 ⌝ }
+{
+    match link {
+        Link::Linked => put(buf, at, b"none"),
+        Link::NoParent => put(buf, at, b"no-parent"),
+        Link::NotConsecutive => put(buf, at, b"not-consecutive"),
+        Link::HashUnknown => put(buf, at, b"hash-unknown"),
+        Link::HashMismatch => put(buf, at, b"hash-mismatch"),
+    }
+}
+
+// Puts a number behind its name, which begins with a bracket and ends with a space, and closes the bracket.
+pub(crate) fn put_named(buf: &mut [u8], at: usize, name: &[u8], n: u64) -> usize
+    requires { ⌜ at + (length (now name) + 21) ≤ length (now buf) ⌝ }
+    ensures { λ r. ⌜ Wrote (now (buf .entry)) (now (buf .exit)) at r (now (name .entry) ++ (decimal n ++ ascii ")")) ⌝ }
+    ensures { λ r. ⌜ r ≤ at + (length (now (name .entry)) + 21) ⌝ }
+{
+    let i = put(buf, at, name);
+    let j = put_decimal(buf, i, n);
+    put_byte(buf, j, b')')
+}
+
+// Puts why a list was not read, or `none`.
+pub(crate) fn put_skip(buf: &mut [u8], at: usize, skip: BalSkip) -> usize
+    requires { ⌜ at + 29 ≤ length (now buf) ⌝ }
+    ensures { λ r. ⌜ Wrote (now (buf .entry)) (now (buf .exit)) at r (skipText skip) ⌝ }
+    ensures { λ r. ⌜ r ≤ at + 29 ⌝ }
+{
+    match skip {
+        BalSkip::Nothing => put(buf, at, b"none"),
+        BalSkip::NoHash => put(buf, at, b"no-hash"),
+        BalSkip::Rpc(n) => put_named(buf, at, b"(rpc ", n),
+        BalSkip::Decode(n) => put_named(buf, at, b"(decode ", n),
+    }
+}
+
+// Puts `(cold LINK SKIP)`.
+pub(crate) fn put_cold(buf: &mut [u8], at: usize, link: Link, skip: BalSkip) -> usize
+    requires { ⌜ at + 52 ≤ length (now buf) ⌝ }
+    ensures { λ r. ⌜ Wrote (now (buf .entry)) (now (buf .exit)) at r (coldText link skip) ⌝ }
+    ensures { λ r. ⌜ r ≤ at + 52 ⌝ }
+{
+    let i = put(buf, at, b"(cold ");
+    let j = put_fault(buf, i, link);
+    let k = put_byte(buf, j, b' ');
+    let l = put_skip(buf, k, skip);
+    put_byte(buf, l, b')')
+}
+
+// Puts `(carried C)` or `(cold LINK SKIP)`.
+pub fn put_outcome(buf: &mut [u8], at: usize, outcome: CarryOutcome) -> usize
+    requires { ⌜ at + 52 ≤ length (now buf) ⌝ }
+    ensures { λ r. ⌜ Wrote (now (buf .entry)) (now (buf .exit)) at r (outcomeText outcome) ⌝ }
+    ensures { λ r. ⌜ r ≤ at + 52 ⌝ }
+{
+    match outcome {
+        CarryOutcome::Carried(c) => put_named(buf, at, b"(carried ", c),
+        CarryOutcome::Cold(link, skip) => put_cold(buf, at, link, skip),
+    }
+}

@@ -4,7 +4,6 @@ use mathlib.Core.List.{List, [], _∷_, _++_}
 use mathlib.Core.Path.{_≡_, refl}
 use Rattle.alike.specs.Canon.{canon, shownHead, shownLife, shownSuperseded, shownWaiter, shownWaiters}
 use Rattle.sheet_lines.specs.Lines.{countLine, currentLine, deliveryText, installedLine, previousLine, supersededLine, unsettledText, waiterLine, waiterLines}
-use Rattle.head_anchor.specs.declared.storage_memo.AnchorSlot.{AnchorSlot}
 use Rattle.head_count.specs.declared.head_lifecycle.Epoch.{Epoch}
 use Rattle.head_attempt.specs.declared.head_lifecycle.Waiter.{Waiter}
 use Rattle.head_attempt.specs.declared.head_lifecycle.WaiterSlot.{WaiterSlot}
@@ -20,10 +19,9 @@ current-shown n e (CurrentHead.Unclaimed u) = refl
 current-shown n e (CurrentHead.Preparing u) = refl
 current-shown n e (CurrentHead.Settled s) = refl
 
-pub life-shown : (l : HeadLifecycle) (s : AnchorSlot) → s ≡ shownSuperseded (l .current) (l .previous) (l .superseded)
-    → countLine (l .stats) (l .«claim_epoch») ++ (currentLine (l .current) ++ (supersededLine s ++ (installedLine (l .installed) ++ previousLine (l .previous)))) ≡ lifeLines (shownLife l)
+pub life-shown : (l : HeadLifecycle) → countLine (l .stats) (l .«claim_epoch») ++ (currentLine (l .current) ++ (supersededLine (shownSuperseded (l .current) (l .previous) (l .superseded)) ++ (installedLine (l .installed) ++ previousLine (l .previous)))) ≡ lifeLines (shownLife l)
 unfolding lifeLines shownLife
-life-shown l s e = rw (e, current-shown (l .stats .delivered) (l .«claim_epoch») (l .current))
+life-shown l = rw (current-shown (l .stats .delivered) (l .«claim_epoch») (l .current))
 
 waiter-shown : (n : ℕ) (w : Waiter) → waiterLine n (shownWaiter w) ≡ waiterLine n w
 unfolding shownWaiter

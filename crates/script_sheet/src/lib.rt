@@ -8,10 +8,11 @@ ghost use Rattle.text.specs.Writes.{Wrote};
 use crate::life::put_life;
 use head_driver::head_lifecycle::Driver;
 use script_value::buffer::Written;
-use sheet_slots::waiters::put_waiters;
+use sheet_waiters::put_waiters;
 
-pub mod life;
-pub mod mask;
+mod life;
+mod lines;
+mod mask;
 
 // No sheet is longer than 2,908 bytes; the rest of the room is for what sheets will show.
 pub(crate) fn put_lines(buf: &mut [u8], d: Driver) -> usize

@@ -1,19 +1,41 @@
 // The sheet's lines of the lifecycle, in document 01's order.
 ghost use Prim.Native.Nat.{_+_, _≤_};
 ghost use lib.ListN.{length};
-ghost use Rattle.alike.specs.Canon.{shownLife};
+ghost use mathlib.Core.List.{_++_};
+ghost use Rattle.alike.specs.Canon.{shownLife, shownSuperseded};
 ghost use Rattle.script_sheet.specs.Sheets.{lifeLines};
+ghost use Rattle.sheet_lines.specs.Lines.{currentLine, supersededLine, installedLine, previousLine};
 ghost use Rattle.text.specs.Writes.{Wrote};
+use crate::lines::put_count;
+use crate::lines::put_superseded;
 use crate::mask::shown_superseded;
+use head_anchor::storage_memo::AnchorSlot;
+use head_current::head_lifecycle::CurrentHead;
 use head_life::head_lifecycle::HeadLifecycle;
-use sheet_lines::counts::put_count;
-use sheet_lines::heads::put_current;
-use sheet_lines::heads::put_superseded;
-use sheet_slots::generations::put_installed;
-use sheet_slots::generations::put_previous;
+use head_ready::delta_snapshot::GenerationSlot;
+use sheet_generations::put_generations;
+use sheet_lines::put_current;
 
-// Puts what the sheet shows of a lifecycle. Attempt epochs and the heads' numbers are nowhere written, so only the superseded anchor
-// is looked at before its line is put.
+// Puts the lines after the counters'. Only the superseded anchor is looked at before its line is put.
+pub(crate) fn put_heads(
+    buf: &mut [u8],
+    at: usize,
+    current: CurrentHead,
+    stored: AnchorSlot,
+    installed: GenerationSlot,
+    previous: GenerationSlot,
+) -> usize
+    requires { ⌜ at + 695 ≤ length (now buf) ⌝ }
+    ensures { λ r. ⌜ Wrote (now (buf .entry)) (now (buf .exit)) at r (currentLine current ++ (supersededLine (shownSuperseded current previous stored) ++ (installedLine installed ++ previousLine previous))) ⌝ }
+    ensures { λ r. ⌜ r ≤ at + 695 ⌝ }
+{
+    let superseded = shown_superseded(current, previous, stored);
+    let i = put_current(buf, at, current);
+    let j = put_superseded(buf, i, superseded);
+    put_generations(buf, j, installed, previous)
+}
+
+// Puts what the sheet shows of a lifecycle. Attempt epochs and the heads' numbers are nowhere written.
 pub(crate) fn put_life(buf: &mut [u8], at: usize, life: HeadLifecycle) -> usize
     requires { ⌜ at + 892 ≤ length (now buf) ⌝ }
     ensures { λ r. ⌜ Wrote (now (buf .entry)) (now (buf .exit)) at r (lifeLines (shownLife life)) ⌝ }
@@ -22,13 +44,9 @@ pub(crate) fn put_life(buf: &mut [u8], at: usize, life: HeadLifecycle) -> usize
     let stats = life.stats;
     let epoch = life.claim_epoch;
     let current = life.current;
+    let stored = life.superseded;
     let installed = life.installed;
     let previous = life.previous;
-    let stored = life.superseded;
-    let superseded = shown_superseded(current, previous, stored);
     let i = put_count(buf, at, stats, epoch);
-    let j = put_current(buf, i, current);
-    let k = put_superseded(buf, j, superseded);
-    let l = put_installed(buf, k, installed);
-    put_previous(buf, l, previous)
+    put_heads(buf, i, current, stored, installed, previous)
 }

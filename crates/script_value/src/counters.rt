@@ -5,7 +5,7 @@ ghost use Rattle.script_value.specs.Texts.{spacedText, fourText, statsTe
 ghost use Rattle.text.specs.Writes.{Wrote};
 use head_count::head_lifecycle::HeadStats;
 use text_put::decimal::put_decimal;
-use text_put::put::put;
+use text_put::put::put_byte;
 
 // Puts ` N`.
 pub fn put_spaced(buf: &mut [u8], at: usize, n: u64) -> usize
@@ -13,7 +13,7 @@ pub fn put_spaced(buf: &mut [u8], at: usize, n: u64) -> usize
     ensures { λ r. ⌜ Wrote (now (buf .entry)) (now (buf .exit)) at r (spacedText n) ⌝ }
     ensures { λ r. ⌜ r ≤ at + 21 ⌝ }
 {
-    let i = put(buf, at, b" ");
+    let i = put_byte(buf, at, b' ');
     put_decimal(buf, i, n)
 }
 

@@ -36,7 +36,7 @@ unfolding lines
 sheet-lines d =
     let l = d .life in
     sym (sheet-shown d)
-    ∙ ap (λ (s : List ℕ). s ++ waiterLines 0 (d .waiters)) (sym (life-shown l _ refl))
+    ∙ ap (λ (s : List ℕ). s ++ waiterLines 0 (d .waiters)) (sym (life-shown l))
     ∙ five
     (countLine (l .stats) (l .«claim_epoch»)) (currentLine (l .current)) (supersededLine (shownSuperseded (l .current) (l .previous) (l .superseded)))
     (installedLine (l .installed)) (previousLine (l .previous)) (waiterLines 0 (d .waiters))

@@ -1,4 +1,120 @@
-// The lines of a sheet, each with its line feed: those of the counters, the current head and the superseded anchor, into a lent buffer.
+// The line of a sheet for the current head, with its line feed, into a lent buffer. The specs define every line of a sheet.
 // Knows nothing of what a sheet leaves out, nor in which order its lines stand.
-pub mod counts;
-pub mod heads;
+ghost use Prim.Native.Nat.{_+_, _≤_};
+ghost use lib.ListN.{length};
+ghost use mathlib.Core.List.{_++_};
+ghost use Rattle.script_outcome.specs.Texts.{reportText};
+ghost use Rattle.sheet_lines.specs.Lines.{poseText, deliveryText, unsettledText, currentLine};
+ghost use Rattle.text.specs.Ascii.{ascii};
+ghost use Rattle.text.specs.Writes.{Wrote};
+use hash_text::put_sheet_hash;
+use head_attempt::head_lifecycle::HeadCompletion;
+use head_current::head_lifecycle::CurrentHead;
+use head_current::head_lifecycle::HeadDelivery;
+use head_current::head_lifecycle::LastReport;
+use head_current::head_lifecycle::SettledHead;
+use head_current::head_lifecycle::UnsettledHead;
+use script_ready::report::put_report;
+use script_value::counters::put_spaced;
+use text_put::put::put;
+use text_put::put::put_byte;
+use value_text::anchor::put_anchor;
+use value_text::page::Page;
+
+// Puts how an attempt stands, and the end of its line.
+pub(crate) fn put_pose(buf: &mut [u8], at: usize, end: HeadCompletion) -> usize
+    requires { ⌜ at + 12 ≤ length (now buf) ⌝ }
+    ensures { λ r. ⌜ Wrote (now (buf .entry)) (now (buf .exit)) at r (ascii " " ++ (poseText end ++ ascii ")\n")) ⌝ }
+    ensures { λ r. ⌜ r ≤ at + 12 ⌝ }
+{
+    match end {
+        HeadCompletion::Open | HeadCompletion::Settled | HeadCompletion::Superseded => put(
+            buf,
+            at,
+            b" open)\n",
+        ),
+        HeadCompletion::Abandoned => put(buf, at, b" abandoned)\n"),
+    }
+}
+
+// Puts `A P`.
+pub(crate) fn put_delivery(buf: &mut [u8], at: usize, held: HeadDelivery) -> usize
+    requires { ⌜ at + 152 ≤ length (now buf) ⌝ }
+    ensures { λ r. ⌜ Wrote (now (buf .entry)) (now (buf .exit)) at r (deliveryText held) ⌝ }
+    ensures { λ r. ⌜ r ≤ at + 152 ⌝ }
+{
+    let anchor = held.anchor;
+    let parent_hash = held.parent_hash;
+    let i = put_anchor(buf, at, Page::Sheet, anchor);
+    let j = put_byte(buf, i, b' ');
+    put_sheet_hash(buf, j, parent_hash)
+}
+
+// Puts `A P H`.
+pub(crate) fn put_unsettled(buf: &mut [u8], at: usize, head: UnsettledHead) -> usize
+    requires { ⌜ at + 173 ≤ length (now buf) ⌝ }
+    ensures { λ r. ⌜ Wrote (now (buf .entry)) (now (buf .exit)) at r (unsettledText head) ⌝ }
+    ensures { λ r. ⌜ r ≤ at + 173 ⌝ }
+{
+    let held = head.delivery;
+    let i = put_delivery(buf, at, held);
+    put_spaced(buf, i, head.provisional)
+}
+
+pub(crate) fn put_unclaimed(buf: &mut [u8], at: usize, head: UnsettledHead) -> usize
+    requires { ⌜ at + 204 ≤ length (now buf) ⌝ }
+    ensures { λ r. ⌜ Wrote (now (buf .entry)) (now (buf .exit)) at r (currentLine (CurrentHead.Unclaimed head)) ⌝ }
+    ensures { λ r. ⌜ r ≤ at + 204 ⌝ }
+{
+    let attempt = head.attempt;
+    let end = attempt.end;
+    let i = put(buf, at, b"(current unclaimed ");
+    let j = put_unsettled(buf, i, head);
+    put_pose(buf, j, end)
+}
+
+pub(crate) fn put_preparing(buf: &mut [u8], at: usize, head: UnsettledHead) -> usize
+    requires { ⌜ at + 194 ≤ length (now buf) ⌝ }
+    ensures { λ r. ⌜ Wrote (now (buf .entry)) (now (buf .exit)) at r (currentLine (CurrentHead.Preparing head)) ⌝ }
+    ensures { λ r. ⌜ r ≤ at + 194 ⌝ }
+{
+    let i = put(buf, at, b"(current preparing ");
+    let j = put_unsettled(buf, i, head);
+    put(buf, j, b")\n")
+}
+
+// Puts a settled head's report, and the end of its line.
+pub(crate) fn put_told(buf: &mut [u8], at: usize, report: LastReport) -> usize
+    requires { ⌜ at + 78 ≤ length (now buf) ⌝ }
+    ensures { λ r. ⌜ Wrote (now (buf .entry)) (now (buf .exit)) at r (ascii " " ++ (reportText report ++ ascii ")\n")) ⌝ }
+    ensures { λ r. ⌜ r ≤ at + 78 ⌝ }
+{
+    let i = put_byte(buf, at, b' ');
+    let j = put_report(buf, i, report);
+    put(buf, j, b")\n")
+}
+
+pub(crate) fn put_settled(buf: &mut [u8], at: usize, head: SettledHead) -> usize
+    requires { ⌜ at + 247 ≤ length (now buf) ⌝ }
+    ensures { λ r. ⌜ Wrote (now (buf .entry)) (now (buf .exit)) at r (currentLine (CurrentHead.Settled head)) ⌝ }
+    ensures { λ r. ⌜ r ≤ at + 247 ⌝ }
+{
+    let held = head.delivery;
+    let report = head.report;
+    let i = put(buf, at, b"(current settled ");
+    let j = put_delivery(buf, i, held);
+    put_told(buf, j, report)
+}
+
+pub fn put_current(buf: &mut [u8], at: usize, current: CurrentHead) -> usize
+    requires { ⌜ at + 247 ≤ length (now buf) ⌝ }
+    ensures { λ r. ⌜ Wrote (now (buf .entry)) (now (buf .exit)) at r (currentLine current) ⌝ }
+    ensures { λ r. ⌜ r ≤ at + 247 ⌝ }
+{
+    match current {
+        CurrentHead::Absent => put(buf, at, b"(current none)\n"),
+        CurrentHead::Unclaimed(head) => put_unclaimed(buf, at, head),
+        CurrentHead::Preparing(head) => put_preparing(buf, at, head),
+        CurrentHead::Settled(head) => put_settled(buf, at, head),
+    }
+}

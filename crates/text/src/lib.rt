@@ -1,4 +1,4 @@
-// Words and decimals as bytes: readers of a lent line, each of a single value.
+// Words of a lent line: the tokenizer, and what reading on and reading a number give.
 // Knows nothing of a head, a call, an answer or a sheet.
 pub mod decimal;
 pub mod place;

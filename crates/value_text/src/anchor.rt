@@ -10,6 +10,7 @@ use head_anchor::storage_memo::BlockHash;
 use head_anchor::storage_memo::ReadAnchor;
 use text_put::decimal::put_decimal;
 use text_put::put::put;
+use text_put::put::put_byte;
 
 // Puts an anchor's hash, or `none`.
 pub(crate) fn put_block_hash(buf: &mut [u8], at: usize, page: Page, hash: BlockHash) -> usize
@@ -30,11 +31,11 @@ pub fn put_anchor(buf: &mut [u8], at: usize, page: Page, anchor: ReadAnchor) -> 
     ensures { λ r. ⌜ r ≤ at + 87 ⌝ }
 {
     let hash = anchor.hash;
-    let i = put(buf, at, b"(");
+    let i = put_byte(buf, at, b'(');
     let j = put_decimal(buf, i, anchor.number);
-    let k = put(buf, j, b" ");
+    let k = put_byte(buf, j, b' ');
     let l = put_block_hash(buf, k, page, hash);
-    put(buf, l, b")")
+    put_byte(buf, l, b')')
 }
 
 // Puts an anchor, or `none`.

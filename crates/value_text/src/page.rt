@@ -13,7 +13,7 @@ pub enum Page {
 }
 
 // Puts a hash as the page has it.
-pub fn put_hash_on(buf: &mut [u8], at: usize, page: Page, hash: Hash) -> usize
+pub(crate) fn put_hash_on(buf: &mut [u8], at: usize, page: Page, hash: Hash) -> usize
     requires { ⌜ at + 64 ≤ length (now buf) ⌝ }
     ensures { λ r. ⌜ Wrote (now (buf .entry)) (now (buf .exit)) at r (hashText page hash) ⌝ }
     ensures { λ r. ⌜ r ≤ at + 64 ⌝ }

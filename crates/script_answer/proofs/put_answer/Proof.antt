@@ -10,10 +10,10 @@ returns-2 : tie.Need-returns-2
 unfolding answerLine
 returns-2 c =
     let c2 = c .before .before in
-    let c1 = c2 .before .before .before .before .before in
-    at-front 512 _ _ _ _ (omega arith) (omega arith) (then (c1 .put-text .ensures .0) (c2 .put .ensures .0))
+    let c1 = c2 .before .before .before .before in
+    at-front 512 _ _ _ _ (omega arith) (omega arith) (then (c1 .put-text .ensures .0) (c2 .put-byte .ensures .0))
 
 pub put-answer-spec : {M : Type 1} → statement M
 put-answer-spec = tie.close (tie.spec
     (λ c. too-short 512 _ _ (omega arith))
-    (search needs) (search needs) (search needs) (search needs) returns-2)
+    (search needs) (search needs) (search needs) returns-2)

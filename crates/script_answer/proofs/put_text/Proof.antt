@@ -18,7 +18,7 @@ returns-2 c = (rw (c .before .before .before .before .before .answer2 .given .1)
 
 returns-3 : tie.Need-returns-3
 unfolding answerText saidText said refusalOn valuesOn valueText wordText decimal decimalOn
-returns-3 c = (rw (c .before .before .before .before .before .enum-told .given .1) (c .before .before .put .ensures .0), omega arith)
+returns-3 c = (rw (c .before .before .before .before .enum-told .given .1) (c .before .before .put-done .ensures .0), omega arith)
 
 returns-4 : tie.Need-returns-4
 unfolding answerText saidText said refusalOn valuesOn valueText wordText decimal decimalOn
@@ -30,7 +30,7 @@ returns-5 c = (rw (c .before .before .before .before .before .answer4 .given .1)
 
 returns-6 : tie.Need-returns-6
 unfolding answerText saidText said refusalOn valuesOn valueText wordText decimal decimalOn
-returns-6 c = (rw (c .before .before .before .before .before .enum-told2 .given .1) (c .before .before .put2 .ensures .0), omega arith)
+returns-6 c = (rw (c .before .before .before .before .enum-told2 .given .1) (c .before .before .put-parked .ensures .0), omega arith)
 
 returns-7 : tie.Need-returns-7
 unfolding answerText saidText said refusalOn valuesOn valueText wordText decimal decimalOn
@@ -54,32 +54,32 @@ returns-11 c = (rw (c .before .before .before .before .before .answer9 .given .1
 
 returns-12 : tie.Need-returns-12
 unfolding answerText saidText said refusalOn valuesOn valueText wordText decimal decimalOn
-returns-12 c = (rw (c .before .before .before .before .before .enum-told3 .given .1) (c .before .before .put3 .ensures .0), omega arith)
+returns-12 c = (rw (c .before .before .before .before .enum-told3 .given .1) (c .before .before .put-refused .ensures .0), omega arith)
 
 returns-13 : tie.Need-returns-13
 unfolding answerText saidText said refusalOn valuesOn valueText wordText decimal decimalOn
-returns-13 c = (rw (c .before .before .before .before .before .enum-told4 .given .1) (c .before .before .put4 .ensures .0), omega arith)
+returns-13 c = (rw (c .before .before .before .before .enum-told4 .given .1) (c .before .before .put-refused2 .ensures .0), omega arith)
 
 returns-14 : tie.Need-returns-14
 unfolding answerText saidText said refusalOn valuesOn valueText wordText decimal decimalOn
-returns-14 c = (rw (c .before .before .before .before .before .enum-told5 .given .1) (c .before .before .put5 .ensures .0), omega arith)
+returns-14 c = (rw (c .before .before .before .before .enum-told5 .given .1) (c .before .before .put-refused3 .ensures .0), omega arith)
 
 returns-15 : tie.Need-returns-15
 unfolding answerText saidText said refusalOn valuesOn valueText wordText decimal decimalOn
-returns-15 c = (rw (c .before .before .before .before .before .enum-told6 .given .1) (c .before .before .put6 .ensures .0), omega arith)
+returns-15 c = (rw (c .before .before .before .before .enum-told6 .given .1) (c .before .before .put-refused4 .ensures .0), omega arith)
 
 pub put-text-spec : {M : Type 1} → statement M
 put-text-spec = tie.close (tie.spec
     (λ c. c .match .keys1) (search needs) (λ c. c .match .keys2) (search needs)
-    (λ c. c .match .keys3) (search needs) (search needs) (λ c. c .match .keys4) (search needs)
-    (λ c. c .match .keys5) (search needs) (λ c. c .match .keys6) (search needs) (search needs)
+    (λ c. c .match .keys3) (search needs) (λ c. c .match .keys4) (search needs)
+    (λ c. c .match .keys5) (search needs) (λ c. c .match .keys6) (search needs)
     (λ c. c .match .keys7) (search needs) (λ c. c .match .keys8) (search needs)
     (λ c. c .match .keys9) (search needs) (λ c. c .match .keys10) (search needs)
     (λ c. c .match .keys11) (search needs) (λ c. c .match .keys12) (search needs)
-    (search needs) (λ c. c .match .keys13) (search needs) (search needs)
-    (λ c. c .match .keys14) (search needs) (search needs) (λ c. c .match .keys15)
-    (search needs) (search needs) (search needs) returns (search needs) returns-2
-    (search needs) returns-3 (search needs) returns-4 (search needs) returns-5 (search needs)
-    returns-6 (search needs) returns-7 (search needs) returns-8 (search needs) returns-9
-    (search needs) returns-10 (search needs) returns-11 (search needs) returns-12
-    (search needs) returns-13 (search needs) returns-14 (search needs) returns-15)
+    (λ c. c .match .keys13) (search needs) (λ c. c .match .keys14) (search needs)
+    (λ c. c .match .keys15) (search needs) (search needs) returns (search needs) returns-2
+    (search needs) returns-3 (search needs) returns-4 (search needs) returns-5
+    (search needs) returns-6 (search needs) returns-7 (search needs) returns-8
+    (search needs) returns-9 (search needs) returns-10 (search needs) returns-11
+    (search needs) returns-12 (search needs) returns-13 (search needs) returns-14
+    (search needs) returns-15)

@@ -14,11 +14,11 @@ returns c = (rw (c .before .before .before .before .before .outcome .given .1) (
 
 returns-2 : tie.Need-returns-2
 unfolding answerText saidText said refusalOn valuesOn valueText wordText outcomeSaid decimal decimalOn
-returns-2 c = (rw (c .before .before .before .before .before .enum-told .given .1) (c .before .before .put .ensures .0), omega arith)
+returns-2 c = (rw (c .before .before .before .before .enum-told .given .1) (c .before .before .put-refused .ensures .0), omega arith)
 
 returns-3 : tie.Need-returns-3
 unfolding answerText saidText said refusalOn valuesOn valueText wordText outcomeSaid decimal decimalOn
-returns-3 c = (rw (c .before .before .before .before .before .enum-told2 .given .1) (c .before .before .put2 .ensures .0), omega arith)
+returns-3 c = (rw (c .before .before .before .before .enum-told2 .given .1) (c .before .before .put-refused2 .ensures .0), omega arith)
 
 returns-4 : tie.Need-returns-4
 unfolding answerText saidText said refusalOn valuesOn valueText wordText outcomeSaid decimal decimalOn
@@ -30,7 +30,7 @@ returns-5 c = (rw (c .before .before .before .before .before .outcome3 .given .1
 
 pub put-head-outcome-spec : {M : Type 1} → statement M
 put-head-outcome-spec = tie.close (tie.spec
-    (λ c. c .match .keys1) (search needs) (λ c. c .match .keys2) (search needs) (search needs)
-    (λ c. c .match .keys3) (search needs) (search needs) (λ c. c .match .keys4) (search needs)
+    (λ c. c .match .keys1) (search needs) (λ c. c .match .keys2) (search needs)
+    (λ c. c .match .keys3) (search needs) (λ c. c .match .keys4) (search needs)
     (λ c. c .match .keys5) (search needs) (search needs) returns (search needs) returns-2
     (search needs) returns-3 (search needs) returns-4 (search needs) returns-5)

@@ -10,8 +10,8 @@ unfolding spacedText
 returns c =
     let c2 = c .before .before in
     let c1 = c2 .before .before .before .before in
-    (then (c1 .put .ensures .0) (c2 .put-decimal .ensures .0), omega arith)
+    (then (c1 .put-byte .ensures .0) (c2 .put-decimal .ensures .0), omega arith)
 
 pub put-spaced-spec : {M : Type 1} → statement M
 put-spaced-spec = tie.close (tie.spec
-    (search needs) (search needs) (search needs) (search needs) returns)
+    (search needs) (search needs) (search needs) returns)

@@ -1,0 +1,2 @@
+-- Poses is the step of a single function.
+pub mod Poses
