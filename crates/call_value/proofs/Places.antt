@@ -1,6 +1,7 @@
 -- From places of a line to the values that are read there: each answer of the readers.
 use Prim.Native.Nat.{ℕ}
-use mathlib.Core.Path.{_≡_, refl}
+use native.Mathlib.Omega.{arith}
+use mathlib.Core.Path.{_≡_, refl, sym, _∙_}
 use mathlib.Core.Bool.{Bool, true, false}
 use mathlib.Core.List.{List}
 use lib.ListN.{length}
@@ -18,6 +19,8 @@ use Rattle.hash_text.specs.LineHashes.{lineHash}
 use Rattle.hash_text.specs.Reads.{readHash}
 use Rattle.hash_text.specs.declared.HashFrom.{HashFrom}
 use Rattle.hash_text.specs.declared.HashWord.{HashWord}
+use Rattle.hash_text.proofs.Only.{line-hash-length}
+use Rattle.text.proofs.Same.{same-short}
 use Rattle.call_value.specs.Values.{blockHashGot, readBlockHash, readAnchor, readSlot, spacedNumber, readFailure, readSkip, spacedHash, spacedAnchor, spacedSlot, spacedSkip}
 use Rattle.call_value.specs.declared.anchor.AnchorFrom.{AnchorFrom}
 use Rattle.call_value.specs.declared.anchor.BlockHashFrom.{BlockHashFrom}
@@ -27,18 +30,14 @@ use Rattle.call_value.specs.declared.skip.SkipFrom.{SkipFrom}
 -- ---- readers that look at a word: w is the word that the rest starts with
 
 module _ (l : List ℕ) (r : Rest) (w : List ℕ) (e : w ≡ wordHere r) where
-  -- `take_block_hash`
+  -- `take_none`
   pub block-hash-none : (t : Bool) (q : Place) → t ≡ sameText w (ascii "none") → t ≡ true → here l q ≡ past (length w) r → Reads l BlockHash.Unknown q (readBlockHash r)
   unfolding readBlockHash says pastWord
   block-hash-none t q f g h = rw (← e, ← f, g, ← h) (record { is = refl; rest = refl })
 
-  pub block-hash-known : (t : Bool) (m : HashWord) (x : Hash) (q : Place) → t ≡ sameText w (ascii "none") → t ≡ false → m ≡ lineHash w → m ≡ HashWord.Value x → here l q ≡ past (length w) r → Reads l (BlockHash.Known x) q (readBlockHash r)
-  unfolding readBlockHash blockHashGot says pastWord
-  block-hash-known t m x q f g p k h = rw (← e, ← f, g, ← p, k, ← h) (record { is = refl; rest = refl })
-
-  pub block-hash-bad : (t : Bool) (m : HashWord) → t ≡ sameText w (ascii "none") → t ≡ false → m ≡ lineHash w → m ≡ HashWord.Bad → Reads l BlockHash.Unknown Place.Stopped (readBlockHash r)
+  pub block-hash-bad : (t : Bool) → lineHash (wordHere r) ≡ HashWord.Bad → t ≡ sameText w (ascii "none") → t ≡ false → Reads l BlockHash.Unknown Place.Stopped (readBlockHash r)
   unfolding readBlockHash blockHashGot says here
-  block-hash-bad t m f g p k = rw (← e, ← f, g, ← p, k) (record { is = refl; rest = refl })
+  block-hash-bad t p f g = rw (p, ← e, ← f, g) (record { is = refl; rest = refl })
 
   -- `take_slot`
   pub slot-none : (t : Bool) (q : Place) → t ≡ sameText w (ascii "none") → t ≡ true → here l q ≡ past (length w) r → Reads l AnchorSlot.Nothing q (readSlot r)
@@ -75,6 +74,17 @@ module _ (l : List ℕ) (r : Rest) (w : List ℕ) (e : w ≡ wordHere r) where
   pub skip-failure : (t u : Bool) (q : Place) (s : SkipFrom) → t ≡ sameText w (ascii "none") → t ≡ false → u ≡ sameText w (ascii "no-hash") → u ≡ false → here l q ≡ after (ascii "(") r → Reads l (s .value) (s .next) (readFailure (here l q)) → Reads l (s .value) (s .next) (readSkip r)
   unfolding readSkip says
   skip-failure t u q s f g x y h k = rw (← e, ← f, g, ← x, y, ← h) k
+
+-- `take_block_hash`: no hash stands there; and a word of 64 bytes is not `none`
+pub no-hash : (r : Rest) (m : HashWord) → m ≡ lineHash (wordHere r) → m ≡ HashWord.Bad → lineHash (wordHere r) ≡ HashWord.Bad
+no-hash r m p k = sym p ∙ k
+
+pub block-hash-known : (l : List ℕ) (r : Rest) (m : HashWord) (x : Hash) (q : Place) → m ≡ lineHash (wordHere r) → m ≡ HashWord.Value x → here l q ≡ past 64 r → Reads l (BlockHash.Known x) q (readBlockHash r)
+unfolding readBlockHash blockHashGot says pastWord
+block-hash-known l r m x q p k h =
+    let n : length (wordHere r) ≡ 64 = line-hash-length (wordHere r) x (sym p ∙ k) in
+    let four : length (ascii "none") ≡ 4 = refl in
+    rw (← same-short (wordHere r) (ascii "none") (λ z. omega arith), ← p, k, n, ← h) (record { is = refl; rest = refl })
 
 -- ---- readers in a row
 

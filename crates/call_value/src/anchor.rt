@@ -1,9 +1,12 @@
 // Anchors on a line.
+ghost use mathlib.Core.Path.{_≡_};
 ghost use Rattle.call_value.specs.Values.{readBlockHash, readAnchor, readSlot};
+ghost use Rattle.hash_text.specs.LineHashes.{lineHash};
 ghost use Rattle.text.specs.Places.{here, Reads};
+ghost use Rattle.text.specs.Rests.{wordHere};
 use hash::Hash;
 use hash_text::HashWord;
-use hash_text::read_hash;
+use hash_text::hash_from;
 use head_anchor::storage_memo::AnchorSlot;
 use head_anchor::storage_memo::BlockHash;
 use head_anchor::storage_memo::ReadAnchor;
@@ -30,8 +33,9 @@ pub struct SlotFrom {
     pub next: Place,
 }
 
-// HASH or `none`. The word is looked for once: it is a keyword or a hash.
-pub(crate) fn take_block_hash(line: &[u8], from: Place) -> BlockHashFrom
+// `none`, where no hash stands.
+pub(crate) fn take_none(line: &[u8], from: Place) -> BlockHashFrom
+    requires { ⌜ lineHash (wordHere (here (now line) from)) ≡ HashWord.Bad ⌝ }
     ensures { λ r. ⌜ Reads (now (line .entry)) (r .value) (r .next) (readBlockHash (here (now (line .entry)) from)) ⌝ }
 {
     let word = word_from(line, from);
@@ -41,15 +45,22 @@ pub(crate) fn take_block_hash(line: &[u8], from: Place) -> BlockHashFrom
             next: past(line, from, word.len()),
         };
     }
-    match read_hash(word) {
+    BlockHashFrom {
+        value: BlockHash::Unknown,
+        next: Place::Stopped,
+    }
+}
+
+// HASH or `none`. Most are hashes, and no hash is `none`.
+pub(crate) fn take_block_hash(line: &[u8], from: Place) -> BlockHashFrom
+    ensures { λ r. ⌜ Reads (now (line .entry)) (r .value) (r .next) (readBlockHash (here (now (line .entry)) from)) ⌝ }
+{
+    match hash_from(line, from) {
         HashWord::Value(h) => BlockHashFrom {
             value: BlockHash::Known(h),
-            next: past(line, from, word.len()),
+            next: past(line, from, 64),
         },
-        HashWord::Bad => BlockHashFrom {
-            value: BlockHash::Unknown,
-            next: Place::Stopped,
-        },
+        HashWord::Bad => take_none(line, from),
     }
 }
 

@@ -23,7 +23,7 @@ use Rattle.hash_text.specs.Reads.{hashGot, readHash, readSheetHash}
 use Rattle.hash_text.specs.Ranges.{HashFits}
 use Rattle.hash_text.specs.declared.Digit.{Digit}
 use Rattle.hash_text.specs.declared.HashWord.{HashWord}
-use Rattle.hash_text.proofs.HexRead.{digit-is, more-bad}
+use Rattle.hash_text.proofs.HexRead.{digit-is, length-hexText, more-bad}
 
 -- ---- one more digit is one more byte of text
 
@@ -107,6 +107,10 @@ hexHash-only s h e = go (eqb (length s) 64) refl e
 pub line-hash-only : (s : List ℕ) (h : Hash) → lineHash s ≡ HashWord.Value h → (s ≡ lineHashText h) × HashFits h
 unfolding lineHash lineHashText
 line-hash-only = hexHash-only
+
+pub line-hash-length : (s : List ℕ) (h : Hash) → lineHash s ≡ HashWord.Value h → length s ≡ 64
+unfolding lineHashText
+line-hash-length s h e = rw (line-hash-only s h e .0) (length-hexText h)
 
 pub sheet-hash-only : (s : List ℕ) (h : Hash) → sheetHash s ≡ HashWord.Value h → (s ≡ sheetHashText h) × HashFits h
 unfolding sheetHash sheetHashText

@@ -8,12 +8,13 @@ ghost use Rattle.hash_text.specs.LineHashes.{lineHash, lineHashText};
 ghost use Rattle.hash_text.specs.SheetHashes.{sheetHashText};
 ghost use Rattle.hash_text.specs.Reads.{readHash};
 ghost use Rattle.text.specs.Places.{here, Reads};
+ghost use Rattle.text.specs.Rests.{wordHere};
 ghost use Rattle.text.specs.Writes.{Wrote};
 use hash::Hash;
 use text::decimal::Number;
 use text::place::Place;
 use text::place::past;
-use text::place::word_from;
+use text::word::next_word;
 use text_put::put::put;
 
 // What a byte says as a hexadecimal digit.
@@ -90,9 +91,8 @@ pub(crate) fn joined(a: Number, b: Number, c: Number, d: Number) -> HashWord
     HashWord::Value(Hash { w0, w1, w2, w3 })
 }
 
-// What a word of a line says as a hash: sixteen digits for each of the four 64-bit words. For a caller that has the word in hand,
-// since it may as well be a keyword.
-pub fn read_hash(word: &[u8]) -> HashWord
+// What a word of a line says as a hash: sixteen digits for each of the four 64-bit words.
+pub(crate) fn read_hash(word: &[u8]) -> HashWord
     ensures { λ r. ⌜ r ≡ lineHash (now (word .entry)) ⌝ }
 {
     if word.len() != 64 {
@@ -105,15 +105,36 @@ pub fn read_hash(word: &[u8]) -> HashWord
     joined(a, b, c, d)
 }
 
+// What the word at a place says as a hash, for a caller whose word may as well be a keyword. A hash has 64 bytes, so they are read as
+// they stand and the word's end is not looked for: it is enough that no word goes on after them.
+pub fn hash_from(line: &[u8], from: Place) -> HashWord
+    ensures { λ r. ⌜ r ≡ lineHash (wordHere (here (now (line .entry)) from)) ⌝ }
+{
+    let Place::At(at) = from else {
+        return HashWord::Bad;
+    };
+    if at >= line.len() {
+        return HashWord::Bad;
+    }
+    if line.len() - at < 64 {
+        return HashWord::Bad;
+    }
+    let end = at + 64;
+    let more = next_word(line, end);
+    if more.len() > 0 {
+        return HashWord::Bad;
+    }
+    read_hash(&line[at..end])
+}
+
 // The hash of the word at a place, and the place after the word.
 pub fn take_hash(line: &[u8], from: Place) -> HashFrom
     ensures { λ r. ⌜ Reads (now (line .entry)) (r .value) (r .next) (readHash (here (now (line .entry)) from)) ⌝ }
 {
-    let word = word_from(line, from);
-    match read_hash(word) {
+    match hash_from(line, from) {
         HashWord::Value(h) => HashFrom {
             value: h,
-            next: past(line, from, word.len()),
+            next: past(line, from, 64),
         },
         HashWord::Bad => HashFrom {
             value: Hash {

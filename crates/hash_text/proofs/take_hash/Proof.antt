@@ -6,6 +6,6 @@ use Rattle.hash_text.proofs.take_hash.Tie as tie
 
 pub take-hash-spec : {M : Type 1} → statement M
 take-hash-spec = tie.close (tie.spec
-    (search needs) (search needs) (search needs) (search needs) (search needs)
+    (search needs) (search needs) (search needs) (search needs)
     (λ c. search hash-got)
     (λ c. search hash-bad))
