@@ -32,6 +32,15 @@ no-feed (b ∷ s) h = go (eqb b 10) (no-feed s) h
     go true more k = absurd (true≢false k)
     go false more k = ap (λ (r : List ℕ). b ∷ r) (more k)
 
+pub through-all : (s : List ℕ) → hasFeed s ≡ false → throughFeed s ≡ s
+unfolding hasFeed throughFeed
+through-all [] h = refl
+through-all (b ∷ s) h = go (eqb b 10) (through-all s) h
+  where
+    go : (t : Bool) → (hasFeed s ≡ false → throughFeed s ≡ s) → if t true (hasFeed s) ≡ false → if t (b ∷ []) (b ∷ throughFeed s) ≡ b ∷ s
+    go true more k = absurd (true≢false k)
+    go false more k = ap (λ (r : List ℕ). b ∷ r) (more k)
+
 -- what is taken is the front of the text
 pub through-front : (s : List ℕ) → s ≡ throughFeed s ++ drop (length (throughFeed s)) s
 unfolding throughFeed
@@ -81,3 +90,13 @@ feed-not-there (b ∷ s) h = go (eqb b 10) (feed-not-there s) h
     go : (t : Bool) → (length s ≤ length (toFeed s) → hasFeed s ≡ false) → suc (length s) ≤ length (if t [] (b ∷ toFeed s)) → if t true (hasFeed s) ≡ false
     go true more k = absurd (not-suc-le-zero k)
     go false more k = more (le-of-suc-le-suc k)
+
+-- bytes without a line feed stand before the next one with what stands before it after them
+pub to-feed-past : (s t : List ℕ) → hasFeed s ≡ false → toFeed (s ++ t) ≡ s ++ toFeed t
+unfolding hasFeed toFeed
+to-feed-past [] t h = refl
+to-feed-past (b ∷ s) t h = go (eqb b 10) (to-feed-past s t) h
+  where
+    go : (x : Bool) → (hasFeed s ≡ false → toFeed (s ++ t) ≡ s ++ toFeed t) → if x true (hasFeed s) ≡ false → if x [] (b ∷ toFeed (s ++ t)) ≡ b ∷ (s ++ toFeed t)
+    go true more k = absurd (true≢false k)
+    go false more k = ap (λ (r : List ℕ). b ∷ r) (more k)

@@ -1,4 +1,4 @@
--- The steps of `feed_at`, `hold` and `keep`.
+-- The steps of `feed_among`, `past_blocks`, `feed_at`, `hold` and `keep`.
 use Prim.Native.Nat.{ℕ, zero, suc, _+_, _-_, _≤_, _<_}
 use native.Mathlib.Nat.{add-zero, add-suc, suc-add}
 use native.Mathlib.Numerals.{add-one}
@@ -8,13 +8,59 @@ use mathlib.Core.List.{List, [], _∷_, _++_}
 use mathlib.Core.Logic.{_≢_}
 use mathlib.Core.Path.{_≡_, refl, ap, sym, _∙_}
 use lib.Dec.{ltb}
-use lib.ListN.{length, take, drop, getD, set, length-append, length-drop, drop-of-length-le}
-use lib.Seq.{drop-cons, length-take-le, sets, take-all, take-append-seam, take-length, take-nil}
+use lib.ListN.{length, take, drop, getD, set, length-append, length-drop, drop-of-length-le, take-append-drop}
+use lib.Seq.{drop-cons, drop-drop, length-take-le, sets, take-all, take-append-seam, take-length, take-nil}
 use borrow.Author.Tests.{eq-eqb, ne-eqb, lt-ltb, le-ltb, ltb-true, ltb-false}
 use Rattle.hash.specs.Logic.{if}
 use Rattle.text.specs.Writes.{Wrote}
 use Rattle.pending.specs.Kept.{Keeps, Part, part, hasFeed, keepAll, keepByte, roomFor, throughFeed, toFeed}
-use Rattle.pending.proofs.Feeds.{feed-front, feed-not-there, feed-there, no-feed, through-feed}
+use Rattle.pending.proofs.Feeds.{feed-front, feed-not-there, feed-there, no-feed, through-feed, to-feed-past}
+
+-- ---- the loop of `feed_among`: one was found, or is to be found in the rest
+
+module _ (s : List ℕ) (i : ℕ) (found : Bool) (g : if found true (hasFeed (drop i s)) ≡ hasFeed s) where
+  pub among-found : (now : Bool) → i < length s → getD s i 0 ≡ 10 → now ≡ true → if now true (hasFeed (drop (i + 1) s)) ≡ hasFeed s
+  unfolding hasFeed
+  among-found now h e k =
+      let z : hasFeed (drop i s) ≡ true = rw (drop-cons s i 0 h, eq-eqb _ _ e) in
+      rw k (sym (all-true found (hasFeed (drop i s)) z) ∙ g)
+    where
+      all-true : (t u : Bool) → u ≡ true → if t true u ≡ true
+      all-true true u e = refl
+      all-true false u e = e
+
+  pub among-not : (now : Bool) → i < length s → getD s i 0 ≢ 10 → now ≡ found → if now true (hasFeed (drop (i + 1) s)) ≡ hasFeed s
+  unfolding hasFeed
+  among-not now h ne k =
+      let z : hasFeed (drop i s) ≡ hasFeed (drop (i + 1) s) = rw (drop-cons s i 0 h, ne-eqb _ _ ne, add-one i) in
+      rw k (ap (λ (u : Bool). if found true u) (sym z) ∙ g)
+
+  pub among-all : length s ≤ i → found ≡ hasFeed s
+  unfolding hasFeed
+  among-all h =
+      let z : hasFeed (drop i s) ≡ false = rw (drop-of-length-le s h) in
+      sym (or-false found) ∙ ap (λ (u : Bool). if found true u) (sym z) ∙ g
+    where
+      or-false : (t : Bool) → if t true false ≡ t
+      or-false true = refl
+      or-false false = refl
+
+-- ---- the loop of `past_blocks`
+
+pub past-block : (input : List ℕ) (at i : ℕ) (found : Bool) → i ≤ length input → i + length (toFeed (drop i input)) ≡ at + length (toFeed (drop at input))
+    → 16 ≤ length input - i → found ≡ hasFeed (take (i + 16 - i) (drop i input)) → found ≡ false
+    → i + 16 + length (toFeed (drop (i + 16) input)) ≡ at + length (toFeed (drop at input))
+past-block input at i found within g h told none =
+    let k : i + 16 - i ≡ 16 = omega arith in
+    let bytes : hasFeed (take 16 (drop i input)) ≡ false = (ap (λ (n : ℕ). hasFeed (take n (drop i input))) (sym k) ∙ sym told ∙ none) in
+    let l = length-drop i input in
+    let n : length (take 16 (drop i input)) ≡ 16 = length-take-le 16 (drop i input) (omega arith) in
+    let f : length (toFeed (drop i input)) ≡ 16 + length (toFeed (drop (i + 16) input))
+    = (ap (λ (s : List ℕ). length (toFeed s)) (sym (take-append-drop 16 (drop i input)))
+    ∙ ap length (to-feed-past (take 16 (drop i input)) (drop 16 (drop i input)) bytes)
+    ∙ length-append (take 16 (drop i input)) (toFeed (drop 16 (drop i input)))
+    ∙ rw (n, drop-drop 16 i input)) in
+    omega arith
 
 -- ---- the loop of `feed_at`: from i on as many bytes stand before the line feed as make it whole from the first place on
 

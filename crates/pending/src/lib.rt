@@ -2,7 +2,7 @@
 ghost use Prim.Native.Nat.{_+_, _≤_};
 ghost use mathlib.Core.Path.{_≡_};
 ghost use lib.ListN.{drop, length};
-ghost use Rattle.pending.specs.Kept.{Keeps, keepAll, part, roomFor, toFeed};
+ghost use Rattle.pending.specs.Kept.{Keeps, hasFeed, keepAll, part, roomFor, toFeed};
 use text_put::put::put;
 
 // How many bytes of the line are held now, the place in the input after what was taken, and whether that was a line feed.
@@ -12,11 +12,44 @@ pub struct Kept {
     pub ended: bool,
 }
 
-// The place of the next line feed, or the input's end. A loop of its own, since most bytes are passed here.
+// Whether a line feed is among these bytes. All of them are looked at, so that the compiler can compare them side by side.
+pub(crate) fn feed_among(bytes: &[u8]) -> bool
+    ensures { λ r. ⌜ r ≡ hasFeed (now (bytes .entry)) ⌝ }
+{
+    let mut found = false;
+    let mut i = 0;
+    while i < bytes.len() {
+        if bytes[i] == b'\n' {
+            found = true;
+        }
+        i += 1;
+    }
+    found
+}
+
+// Passes bytes without a line feed sixteen at a time: the next one stands as far from here as from the place handed back.
+pub(crate) fn past_blocks(input: &[u8], at: usize) -> usize
+    ensures { λ r. ⌜ r + length (toFeed (drop r (now (input .entry)))) ≡ at + length (toFeed (drop at (now (input .entry)))) ⌝ }
+{
+    if at > input.len() {
+        return at;
+    }
+    let mut i = at;
+    while input.len() - i >= 16 {
+        let end = i + 16;
+        if feed_among(&input[i..end]) {
+            return i;
+        }
+        i = end;
+    }
+    i
+}
+
+// The place of the next line feed, or the input's end.
 pub(crate) fn feed_at(input: &[u8], at: usize) -> usize
     ensures { λ r. ⌜ r ≡ at + length (toFeed (drop at (now (input .entry)))) ⌝ }
 {
-    let mut i = at;
+    let mut i = past_blocks(input, at);
     while i < input.len() {
         if input[i] == b'\n' {
             return i;

@@ -10,11 +10,14 @@ use lib.ListN.{length, take, take-append-drop}
 use lib.Seq.{slice, take-take}
 use borrow.Author.Tests.{not-true, not-false}
 use Rattle.text.proofs.Writes.{nothing, then}
+use Rattle.pending.specs.Kept.{Keeps}
+use Rattle.pending.specs.declared.Kept.{Kept}
 use Rattle.head_driver.specs.declared.head_lifecycle.Driver.{Driver}
-use Rattle.script.specs.Feeds.{Feeds, FeedsLine, Reading, TakesSome, reading, allPrints, allTaken, lent, usable}
+use Rattle.script.specs.Feeds.{AnswersHeld, Feeds, Reading, TakesSome, reading, allPrints, allTaken, lent, usable}
 use Rattle.script.specs.declared.Fed.{Fed}
 use Rattle.script.proofs.Cuttings.{taken-append, prints-append}
 use Rattle.script.proofs.Ending.{lent-of}
+use Rattle.script.proofs.Lines.{FeedsLine, held-within, line-ends, line-goes-on, place-last}
 
 feeds-none : (s : Reading) (out : List ℕ) → Feeds s [] s out out 0 0
 unfolding allTaken allPrints
@@ -69,11 +72,11 @@ module _ (d : Driver) (pending₀ : List ℕ) (held : ℕ) (input out₀ : List 
     pub answer-room : 4096 ≤ length out - fed .written → fed .written + 4096 ≤ length out
     answer-room h = let w = written-within in omega arith
 
-    pub less-left : fed .taken < length input → (pending′ out′ : List ℕ) (r : Fed) → FeedsLine fed pending pending′ input out out′ r
+    less-left : fed .taken < length input → (pending′ out′ : List ℕ) (r : Fed) → FeedsLine fed pending pending′ input out out′ r
         → length input - r .taken < length input - fed .taken
     less-left h pending′ out′ r f = let o = f .onward h in let w = f .within in omega arith
 
-    pub going-on : fed .taken < length input → (pending′ out′ : List ℕ) (r : Fed) → length pending′ ≡ length pending → length out′ ≡ length out
+    going-on : fed .taken < length input → (pending′ out′ : List ℕ) (r : Fed) → length pending′ ≡ length pending → length out′ ≡ length out
         → FeedsLine fed pending pending′ input out out′ r → Going pending′ out′ r
     going-on h pending′ out′ r p o f =
         let k = g .kept in let m = g .room in
@@ -98,3 +101,30 @@ module _ (d : Driver) (pending₀ : List ℕ) (held : ℕ) (input out₀ : List 
 
     pub no-room : length out - fed .written < 4096 → TakesSome (reading d pending₀ held) (reading (fed .driver) pending (fed .held)) input out₀ out fed
     no-room h = some (inr (let m = g .room in let w = g .fits in omega arith))
+
+  -- a turn of the loop: the bytes are kept up to a line feed, or to the input's end
+  module _ (pending out : List ℕ) (fed : Fed) (g : Going pending out fed) (more : fed .taken < length input) (space : 4096 ≤ length out - fed .written)
+      (pending′ : List ℕ) (same : length pending′ ≡ length pending) (k : Kept) (keeps : Keeps pending (fed .held) pending′ input (fed .taken) k) where
+    abbrev now : Fed
+    now = record { driver = fed .driver; held = k .held; taken = k .at; written = fed .written }
+
+    pub line-held : k .held ≤ length pending′
+    line-held = held-within fed pending pending′ input out k (line-room pending out fed g) (g .few) (g .within) (answer-room pending out fed g space) keeps same
+
+    -- the input ends first, and all of it is taken
+    pub cut-off : not (k .ended) ≡ true → TakesSome (reading d pending₀ held) (reading (fed .driver) pending′ (k .held)) input out₀ out now
+    cut-off e =
+        let f = line-goes-on fed pending pending′ input out k (line-room pending out fed g) (g .few) (g .within) (answer-room pending out fed g space) keeps (not-true (k .ended) e) in
+        let l = place-last fed pending pending′ input out k (line-room pending out fed g) (g .few) (g .within) (answer-room pending out fed g space) keeps (not-true (k .ended) e) in
+        all-taken pending′ out now (going-on pending out fed g more pending′ out now same refl f) l
+
+    -- the line is answered
+    module _ (e : not (k .ended) ≡ false) (out′ : List ℕ) (r : Fed) (answers : AnswersHeld now pending′ out out′ r) where
+      line : FeedsLine fed pending pending′ input out out′ r
+      line = line-ends fed pending pending′ input out k (line-room pending out fed g) (g .few) (g .within) (answer-room pending out fed g space) keeps (not-false (k .ended) e) out′ r answers
+
+      pub line-less : length input - r .taken < length input - fed .taken
+      line-less = less-left pending out fed g more pending′ out′ r line
+
+      pub line-going : length out′ ≡ length out → Going pending′ out′ r
+      line-going o = going-on pending out fed g more pending′ out′ r same o line

@@ -10,14 +10,14 @@ use lib.ListN.{length, take, drop, length-append, length-drop}
 use lib.Seq.{slice, take-append-seam}
 use Rattle.hash.specs.Logic.{if}
 use Rattle.pending.specs.Kept.{Keeps, Part, part, keepAll, keepByte, lineSoFar, throughFeed, toFeed}
-use Rattle.pending.proofs.Feeds.{no-feed, through-feed, through-front, through-some}
+use Rattle.pending.proofs.Feeds.{no-feed, through-all, through-feed, through-front, through-some}
 use Rattle.pending.proofs.Held.{Sound, sound-all}
 use Rattle.script_call.specs.Calls.{call}
 use Rattle.script_line.specs.Prints.{prints}
 use Rattle.text.proofs.Writes.{nothing}
 use Rattle.head_driver.specs.declared.head_lifecycle.Driver.{Driver}
 use Rattle.pending.specs.declared.Kept.{Kept}
-use Rattle.script.specs.Feeds.{AnswersHeld, FeedsLine, Reading, lineEnds, byteTaken, bytePrints, allTaken, allPrints}
+use Rattle.script.specs.Feeds.{AnswersHeld, Feeds, Reading, reading, lineEnds, byteTaken, bytePrints, allTaken, allPrints}
 use Rattle.script.specs.declared.Fed.{Fed}
 use Rattle.script.proofs.Cuttings.{taken-append, prints-append}
 
@@ -77,6 +77,14 @@ at-feed x d p b = record {
 
 -- ---- what `feed_line` does
 
+-- what a turn of the loop of `feed` does, which takes the input up to the end of a line, or to its end
+pub record FeedsLine (fed : Fed) (pending pending′ input out out′ : List ℕ) (r : Fed) : Type 0 where
+  pub onward : fed .taken < length input → fed .taken < r .taken
+  pub within : r .taken ≤ length input
+  pub feeds : Feeds (reading (fed .driver) pending (fed .held)) (slice (fed .taken) (r .taken) input) (reading (r .driver) pending′ (r .held)) out out′ (fed .written) (r .written)
+  pub few : r .held ≤ 513
+  pub fits : r .written ≤ length out
+
 module _ (fed : Fed) (pending pending′ input out : List ℕ) (k : Kept) (room : 513 ≤ length pending) (few : fed .held ≤ 513) (within : fed .taken ≤ length input)
     (space : fed .written + 4096 ≤ length out) (keeps : Keeps pending (fed .held) pending′ input (fed .taken) k) where
   abbrev u : List ℕ
@@ -111,6 +119,14 @@ module _ (fed : Fed) (pending pending′ input out : List ℕ) (k : Kept) (room 
 
   place-onward : fed .taken < length input → fed .taken < k .at
   place-onward h = let p = keeps .place in let l = left in let q = through-some (drop (fed .taken) input) (omega arith) in omega arith
+
+  -- where no line feed comes, all of the input is taken
+  pub place-last : k .ended ≡ false → length input ≤ k .at
+  place-last h =
+      let p = keeps .place in
+      let l = left in
+      let t : length (throughFeed (drop (fed .taken) input)) ≡ length (drop (fed .taken) input) = ap length (through-all (drop (fed .taken) input) (sym (keeps .ended) ∙ h)) in
+      omega arith
 
   -- the input ends first
   pub line-goes-on : k .ended ≡ false → FeedsLine fed pending pending′ input out out now

@@ -6,7 +6,6 @@ use mathlib.Core.Logic.{_⊎_}
 use mathlib.Core.Path.{_≡_}
 use lib.Dec.{eqb, leb}
 use lib.ListN.{length, take, drop}
-use lib.Seq.{slice}
 use Rattle.hash.specs.Logic.{if, both}
 use Rattle.pending.specs.Kept.{Part, part, keepByte, lineSoFar}
 use Rattle.script_call.specs.Calls.{call}
@@ -83,14 +82,6 @@ usable pending held out = both (leb 513 pending) (both (leb held 513) (leb 4096 
 
 abbrev pub lent : Reading → List ℕ → Bool
 lent s out = usable (length (s .kept .buffer)) (s .kept .held) (length out)
-
--- what is promised of `feed_line`, which takes the input up to the end of a line, or to its end
-pub record FeedsLine (fed : Fed) (pending pending′ input out out′ : List ℕ) (r : Fed) : Type 0 where
-  pub onward : fed .taken < length input → fed .taken < r .taken
-  pub within : r .taken ≤ length input
-  pub feeds : Feeds (reading (fed .driver) pending (fed .held)) (slice (fed .taken) (r .taken) input) (reading (r .driver) pending′ (r .held)) out out′ (fed .written) (r .written)
-  pub few : r .held ≤ 513
-  pub fits : r .written ≤ length out
 
 -- what is promised of `finish`: the last line's answer, where the host's buffers can be used
 abbrev pub Finishes : Reading → List ℕ → List ℕ → Printed → Type 0

@@ -2,7 +2,7 @@
 ghost use Prim.Native.Nat.{_+_, _≤_};
 ghost use mathlib.Core.Path.{_≡_};
 ghost use lib.ListN.{length};
-ghost use Rattle.script.specs.Feeds.{AnswersHeld, FeedsLine, Finishes, TakesSome, reading, usable};
+ghost use Rattle.script.specs.Feeds.{AnswersHeld, Finishes, TakesSome, reading, usable};
 use head_driver::head_lifecycle::Driver;
 use pending::keep;
 use script_line::Printed;
@@ -44,29 +44,8 @@ pub(crate) fn answer_held(fed: Fed, pending: &[u8], out: &mut [u8]) -> Fed
     }
 }
 
-// Takes the input from where it stands up to the end of a line, or to its end.
-pub(crate) fn feed_line(fed: Fed, pending: &mut [u8], input: &[u8], out: &mut [u8]) -> Fed
-    requires { ⌜ 513 ≤ length (now pending) ⌝ }
-    requires { ⌜ fed .held ≤ 513 ⌝ }
-    requires { ⌜ fed .taken ≤ length (now input) ⌝ }
-    requires { ⌜ fed .written + 4096 ≤ length (now out) ⌝ }
-    ensures { λ r. ⌜ FeedsLine fed (now (pending .entry)) (now (pending .exit)) (now (input .entry)) (now (out .entry)) (now (out .exit)) r ⌝ }
-{
-    let kept = keep(pending, fed.held, input, fed.taken);
-    let now = Fed {
-        held: kept.held,
-        taken: kept.at,
-        ..fed
-    };
-    if kept.ended {
-        answer_held(now, pending, out)
-    } else {
-        now
-    }
-}
-
 // Takes the next bytes of an input, as many as there is room for the answers of, and writes these at the front of `out`. The caller
-// hands the rest over again, and keeps `pending` and `held` for the next call.
+// hands the rest over again, and keeps `pending` and `held` for the next call. Each turn of the loop takes the input up to the end of a line, or to its end.
 pub fn feed(d: Driver, pending: &mut [u8], held: usize, input: &[u8], out: &mut [u8]) -> Fed
     ensures { λ r. ⌜ TakesSome (reading d (now (pending .entry)) held) (reading (r .driver) (now (pending .exit)) (r .held)) (now (input .entry)) (now (out .entry)) (now (out .exit)) r ⌝ }
 {
@@ -83,7 +62,16 @@ pub fn feed(d: Driver, pending: &mut [u8], held: usize, input: &[u8], out: &mut 
         if out.len() - fed.written < 4096 {
             return fed;
         }
-        fed = feed_line(fed, pending, input, out);
+        let kept = keep(pending, fed.held, input, fed.taken);
+        let now = Fed {
+            held: kept.held,
+            taken: kept.at,
+            ..fed
+        };
+        if !kept.ended {
+            return now;
+        }
+        fed = answer_held(now, pending, out);
     }
     fed
 }

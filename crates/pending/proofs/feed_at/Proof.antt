@@ -16,7 +16,8 @@ abbrev μ-loop : tie.MeasureT-loop
 
 pub feed-at-spec : {M : Type 1} → statement M
 feed-at-spec = tie.close (tie.spec Inv-loop μ-loop
-    (λ c. refl)
+    (search needs)
+    (λ c. search needs)
     (search needs)
     (λ c. search at-feed)
     (search needs)

@@ -2,7 +2,7 @@
 use Prim.Native.Nat.{_-_}
 use lib.ListN.{length}
 use borrow.Author.Needs.{needs}
-use Rattle.script.proofs.Feeding.{Going, all-taken, answer-room, going-first, going-on, less-left, line-room, no-room, not-usable, written-within}
+use Rattle.script.proofs.Feeding.{Going, all-taken, answer-room, cut-off, going-first, line-going, line-held, line-less, line-room, no-room, not-usable, written-within}
 use Rattle.script.proofs.feed.Statement.{statement}
 use Rattle.script.proofs.feed.Tie as tie
 
@@ -21,9 +21,13 @@ feed-spec = tie.close (tie.spec Inv-loop μ-loop
     (λ c. search needs)
     (λ c. search needs)
     (λ c. search no-room)
-    (λ c κs. (search line-room, (search needs, (search needs, search answer-room))))
-    (λ c. search less-left)
-    (λ c. search going-on)
+    (λ c κs. search line-room)
+    (λ c. search needs)
+    (λ c. search needs)
+    (λ c. search cut-off)
+    (λ c κs. (search line-held, search answer-room))
+    (λ c. search line-less)
+    (λ c. search line-going)
     (λ c. search needs)
     (λ c. search needs)
     (λ c. search all-taken))
