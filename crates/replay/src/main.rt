@@ -284,7 +284,7 @@ fn line_taken(
     next
 }
 
-// All that was read. Each turn takes a byte at least, so there are no more turns than bytes.
+// All that a read brought. Each turn takes a byte at least, so there are no more turns than bytes.
 fn lines_taken(
     start: Replay,
     pending: &mut [u8],
@@ -294,28 +294,17 @@ fn lines_taken(
 ) -> Replay
     requires { ⌜ 513 ≤ length (now pending) ⌝ }
 {
+    let mut s = start.standing;
+    s.at = 0;
+    s.more = input.len() > 0;
     let mut now = start;
+    now.standing = s;
     let mut turns = input.len();
     while turns > 0 && now.standing.at < input.len() {
         now = line_taken(now, pending, input, want, out);
         turns -= 1;
     }
     now
-}
-
-// Reads once.
-fn read_some(fd: i32, start: Replay, pending: &mut [u8], want: &mut [u8], out: &mut [u8]) -> Replay
-    requires { ⌜ 513 ≤ length (now pending) ⌝ }
-{
-    let mut input = io::large_buffer();
-    let got = libc::read(fd, &mut input);
-    let n = io::count(got, &input);
-    let mut s = start.standing;
-    s.at = 0;
-    s.more = n > 0;
-    let mut now = start;
-    now.standing = s;
-    lines_taken(now, pending, &input[..n], want, out)
 }
 
 fn print(t: Tally) {
@@ -332,6 +321,7 @@ fn counted(fd: i32) -> Tally {
     let mut pending = [0u8; 514];
     let mut want = [0u8; 4096];
     let mut out = [0u8; 4096];
+    let mut input = io::large_buffer();
     let standing = Standing {
         tally: Tally {
             runs: 0,
@@ -349,7 +339,9 @@ fn counted(fd: i32) -> Tally {
     };
     let mut turns = u64::MAX;
     while turns > 0 && now.standing.more {
-        now = read_some(fd, now, &mut pending, &mut want, &mut out);
+        let got = libc::read(fd, &mut input);
+        let n = io::count(got, &input);
+        now = lines_taken(now, &mut pending, &input[..n], &mut want, &mut out);
         turns -= 1;
     }
     now.standing.tally

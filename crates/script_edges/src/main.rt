@@ -3,8 +3,12 @@
 ghost use Prim.Native.Nat.{_<_};
 ghost use mathlib.Core.Path.{_≡_};
 ghost use lib.ListN.{getD, length};
+ghost use Rattle.driver.specs.Turns.{turnOf};
+ghost use Rattle.head_reads.specs.Calls.{new};
 ghost use Rattle.script.specs.Feeds.{reading};
+ghost use Rattle.script_call.specs.Calls.{call};
 ghost use Rattle.script_edges.specs.Plays.{TakesByte, afresh};
+ghost use Rattle.text.specs.Ascii.{ascii};
 use driver::LineAnswer;
 use driver::put_line;
 use driver::take_line;
@@ -29,6 +33,15 @@ fn afresh() -> Fed
     }
 }
 
+// The first n bytes of a buffer; nothing where it has fewer.
+fn show(buf: &[u8], n: usize) -> bool {
+    if n <= buf.len() {
+        io::write_all(STDOUT_FILENO, &buf[..n])
+    } else {
+        false
+    }
+}
+
 // The answers of one byte: none, or those of the line that it ends.
 fn play_byte(d: Driver, pending: &mut [u8], held: usize, input: &[u8], at: usize) -> Fed
     requires { ⌜ at < length (now input) ⌝ }
@@ -37,19 +50,22 @@ fn play_byte(d: Driver, pending: &mut [u8], held: usize, input: &[u8], at: usize
     let mut out = io::buffer();
     let end = at + 1;
     let fed = feed(d, pending, held, &input[at..end], &mut out);
-    let n = fed.written;
-    io::write_all(STDOUT_FILENO, &out[..n]);
+    show(&out, fed.written);
     fed
 }
 
-// The end of a script: a last line without its line feed is answered, and the next script begins.
+// The answer to a last line without its line feed, if there is one.
+fn print_last(d: Driver, pending: &[u8], held: usize) {
+    let mut out = io::buffer();
+    let printed = finish(d, pending, held, &mut out);
+    show(&out, printed.written);
+}
+
+// The end of a script: its last line is answered, and the next script begins.
 fn end_script(d: Driver, pending: &mut [u8], held: usize) -> Fed
     ensures { λ r. ⌜ r ≡ afresh ⌝ }
 {
-    let mut out = io::buffer();
-    let printed = finish(d, pending, held, &mut out);
-    let n = printed.written;
-    io::write_all(STDOUT_FILENO, &out[..n]);
+    print_last(d, pending, held);
     io::write_all(STDOUT_FILENO, b"%\n");
     afresh()
 }
@@ -74,15 +90,6 @@ fn play(input: &[u8]) {
     }
 }
 
-// The first n bytes of a buffer; nothing where it has fewer.
-fn show(buf: &[u8], n: usize) -> bool {
-    if n <= buf.len() {
-        io::write_all(STDOUT_FILENO, &buf[..n])
-    } else {
-        false
-    }
-}
-
 fn show_line(answer: LineAnswer) -> bool {
     let mut out = io::buffer();
     match put_line(&mut out, answer) {
@@ -91,10 +98,18 @@ fn show_line(answer: LineAnswer) -> bool {
     }
 }
 
-// `(sheet)` of a new driver into a lent buffer: the sheet that stands there, or the refusal's line.
-fn show_sheet(buf: &mut [u8]) -> bool {
+// What a new driver answers to `(sheet)` with a lent buffer.
+fn sheet_asked(buf: &mut [u8]) -> LineAnswer
+    ensures { λ r. ⌜ r ≡ turnOf new (call (ascii "(sheet)")) (now (buf .entry)) .answer ⌝ }
+{
     let turn = take_line(new(), b"(sheet)", buf);
     let answer = turn.answer;
+    answer
+}
+
+// `(sheet)` of a new driver into a lent buffer: the sheet that stands there, or the refusal's line.
+fn show_sheet(buf: &mut [u8]) -> bool {
+    let answer = sheet_asked(buf);
     if show_line(answer) {
         show(buf, sheet_length(answer))
     } else {

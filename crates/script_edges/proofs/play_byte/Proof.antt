@@ -1,6 +1,5 @@
 -- What one byte prints is written.
 use borrow.Author.Needs.{needs}
-use Rattle.script.proofs.Fits.{fed-count, fed-fits}
 use Rattle.script_edges.proofs.Played.{takes-byte}
 use Rattle.script_edges.proofs.play_byte.Statement.{statement}
 use Rattle.script_edges.proofs.play_byte.Tie as tie
@@ -14,8 +13,7 @@ play-byte-spec = tie.close (tie.spec
     (search needs)
     (search needs)
     (λ c κs. tt)
-    (λ c. search fed-fits)
-    (λ c. search fed-count)
+    (search needs)
     (λ c κs. tt)
     (search needs)
     (λ c. search takes-byte))
