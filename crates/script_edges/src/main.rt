@@ -4,7 +4,7 @@ ghost use Prim.Native.Nat.{_<_};
 ghost use mathlib.Core.Path.{_≡_};
 ghost use lib.ListN.{getD, length};
 ghost use Rattle.driver.specs.Turns.{turnOf};
-ghost use Rattle.head_reads.specs.Calls.{new};
+ghost use Rattle.head_driver.specs.New.{new};
 ghost use Rattle.script.specs.Feeds.{reading};
 ghost use Rattle.script_call.specs.Calls.{call};
 ghost use Rattle.script_edges.specs.Plays.{TakesByte, afresh};
