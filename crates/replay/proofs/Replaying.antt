@@ -11,14 +11,14 @@ use lib.Seq.{take-all, take-append-seam}
 use borrow.Author.Tests.{eq-eqb, le-leb, ne-eqb}
 use Rattle.hash.specs.Logic.{if, both}
 use Rattle.script.specs.Feeds.{Finishes, lastLeaves, lastPrints, lent, reading}
-use Rattle.script_line.specs.Parts.{Prints, atFront}
+use Rattle.script.specs.Parts.{Prints, atFront}
 use Rattle.text.specs.Places.{Reads, here}
 use Rattle.text.specs.Rests.{readNumber}
 use Rattle.text.specs.Same.{sameText}
 use Rattle.text.specs.Writes.{Wrote}
 use Rattle.text.proofs.Writes.{then}
 use Rattle.head_driver.specs.declared.head_lifecycle.Driver.{Driver}
-use Rattle.script_line.specs.declared.Printed.{Printed}
+use Rattle.script.specs.declared.Printed.{Printed}
 use Rattle.text.specs.declared.place.Place.{Place}
 use Rattle.replay.specs.Recordings.{Collects, TakesAnswer, TakesRecord, afterAnswer, afterCall, callCompared, markOf, numberOf, recorded, runBegun, sameFront}
 use Rattle.replay.specs.declared.Replay.{Replay}

@@ -14,7 +14,7 @@ use Rattle.script.specs.Scripts.{answered, lines, linesAfter, script}
 use Rattle.script_call.specs.Calls.{call}
 use Rattle.script_call.specs.Texts.{sheetCallText}
 use Rattle.script_call.proofs.Back.{sheet-back}
-use Rattle.script_line.specs.Prints.{leaves, prints}
+use Rattle.script.specs.Prints.{leaves, prints}
 use Rattle.script_sheet.specs.Sheets.{sheetText}
 use Rattle.text.specs.Ascii.{ascii}
 use Rattle.head_driver.specs.declared.head_lifecycle.Driver.{Driver}

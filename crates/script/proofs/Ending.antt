@@ -11,10 +11,10 @@ use borrow.Author.Tests.{leb-true}
 use Rattle.hash.specs.Logic.{if, both}
 use Rattle.pending.specs.Kept.{lineSoFar}
 use Rattle.script_call.specs.Calls.{call}
-use Rattle.script_line.specs.Parts.{Prints, atFront}
-use Rattle.script_line.specs.Prints.{leaves, prints}
+use Rattle.script.specs.Parts.{Prints, atFront}
+use Rattle.script.specs.Prints.{leaves, prints}
 use Rattle.head_driver.specs.declared.head_lifecycle.Driver.{Driver}
-use Rattle.script_line.specs.declared.Printed.{Printed}
+use Rattle.script.specs.declared.Printed.{Printed}
 use Rattle.script.specs.Feeds.{Finishes, reading, lent, lastOf, lastLeft, lastPrints, lastLeaves, usable}
 
 -- what can be used of what a host lends

@@ -13,7 +13,7 @@ use Rattle.pending.specs.Kept.{Keeps, Part, part, keepAll, keepByte, lineSoFar,
 use Rattle.pending.proofs.Feeds.{no-feed, through-all, through-feed, through-front, through-some}
 use Rattle.pending.proofs.Held.{Sound, sound-all}
 use Rattle.script_call.specs.Calls.{call}
-use Rattle.script_line.specs.Prints.{prints}
+use Rattle.script.specs.Prints.{prints}
 use Rattle.text.proofs.Writes.{nothing}
 use Rattle.head_driver.specs.declared.head_lifecycle.Driver.{Driver}
 use Rattle.pending.specs.declared.Kept.{Kept}

@@ -9,12 +9,12 @@ use lib.ListN.{length, take, drop}
 use Rattle.hash.specs.Logic.{if, both}
 use Rattle.pending.specs.Kept.{Part, part, keepByte, lineSoFar}
 use Rattle.script_call.specs.Calls.{call}
-use Rattle.script_line.specs.Parts.{Prints}
-use Rattle.script_line.specs.Prints.{leaves, prints}
+use Rattle.script.specs.Parts.{Prints}
+use Rattle.script.specs.Prints.{leaves, prints}
 use Rattle.text.specs.Writes.{Wrote}
 use Rattle.head_driver.specs.declared.head_lifecycle.Driver.{Driver}
 use Rattle.script.specs.declared.Fed.{Fed}
-use Rattle.script_line.specs.declared.Printed.{Printed}
+use Rattle.script.specs.declared.Printed.{Printed}
 
 -- where the reading of an input stands
 pub record Reading : Type 0 where

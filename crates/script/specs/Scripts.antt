@@ -5,7 +5,7 @@ use lib.Dec.{eqb}
 use Rattle.hash.specs.Logic.{if}
 use Rattle.head_driver.specs.New.{new}
 use Rattle.script_call.specs.Calls.{call}
-use Rattle.script_line.specs.Prints.{leaves, prints}
+use Rattle.script.specs.Prints.{leaves, prints}
 use Rattle.head_driver.specs.declared.head_lifecycle.Driver.{Driver}
 
 -- Lines end at line feeds; the last may lack one. Input that ends in a line feed has no further line.

@@ -3,10 +3,17 @@ ghost use Prim.Native.Nat.{_+_, _≤_};
 ghost use mathlib.Core.Path.{_≡_};
 ghost use lib.ListN.{length};
 ghost use Rattle.script.specs.Feeds.{AnswersHeld, Finishes, TakesSome, reading, usable};
+use crate::line::print_line;
 use head_driver::head_lifecycle::Driver;
 use pending::keep;
-use script_line::Printed;
-use script_line::print_line;
+
+mod line;
+
+// A line's answer, written at the front of a buffer, and the driver that the line leaves.
+pub struct Printed {
+    pub driver: Driver,
+    pub written: usize,
+}
 
 // Where the reading of an input stands: the driver, how many bytes of a line are held, and how many bytes of the input were taken and of the output written.
 pub struct Fed {
@@ -63,15 +70,12 @@ pub fn feed(d: Driver, pending: &mut [u8], held: usize, input: &[u8], out: &mut 
             return fed;
         }
         let kept = keep(pending, fed.held, input, fed.taken);
-        let now = Fed {
-            held: kept.held,
-            taken: kept.at,
-            ..fed
-        };
+        fed.held = kept.held;
+        fed.taken = kept.at;
         if !kept.ended {
-            return now;
+            return fed;
         }
-        fed = answer_held(now, pending, out);
+        fed = answer_held(fed, pending, out);
     }
     fed
 }

@@ -19,7 +19,6 @@ use libc::STDOUT_FILENO;
 use script::Fed;
 use script::feed;
 use script::finish;
-use script_line::sheet_length;
 use script_value::buffer::Written;
 
 fn afresh() -> Fed
@@ -110,11 +109,10 @@ fn sheet_asked(buf: &mut [u8]) -> LineAnswer
 // `(sheet)` of a new driver into a lent buffer: the sheet that stands there, or the refusal's line.
 fn show_sheet(buf: &mut [u8]) -> bool {
     let answer = sheet_asked(buf);
-    if show_line(answer) {
-        show(buf, sheet_length(answer))
-    } else {
-        false
+    if let LineAnswer::Sheet(n) = answer {
+        return show(buf, n);
     }
+    show_line(answer)
 }
 
 fn main() {

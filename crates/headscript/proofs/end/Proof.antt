@@ -1,7 +1,7 @@
 -- The last answer is written.
 use mathlib.Core.Path.{refl}
 use borrow.Author.Needs.{needs}
-use Rattle.script_line.proofs.Fits.{printed-count, printed-fits}
+use Rattle.script.proofs.Fits.{printed-count, printed-fits}
 use Rattle.headscript.proofs.end.Statement.{statement}
 use Rattle.headscript.proofs.end.Tie as tie
 

@@ -7,7 +7,7 @@ use Rattle.driver.specs.Turns.{lineText}
 use Rattle.driver.specs.declared.LineAnswer.{LineAnswer}
 use Rattle.head_driver.specs.declared.head_lifecycle.Driver.{Driver}
 use Rattle.script_value.specs.declared.buffer.Written.{Written}
-use Rattle.script_line.specs.declared.Printed.{Printed}
+use Rattle.script.specs.declared.Printed.{Printed}
 
 -- the bytes of a sheet that stands in the buffer
 unfoldable pub sheetLength : LineAnswer → ℕ

@@ -1,6 +1,6 @@
-use Rattle.script_line.specs.Parts.{bytesWritten}
-use Rattle.script_line.proofs.bytes_written.Statement.{statement}
-use Rattle.script_line.proofs.bytes_written.Tie as tie
+use Rattle.script.specs.Parts.{bytesWritten}
+use Rattle.script.proofs.line.bytes_written.Statement.{statement}
+use Rattle.script.proofs.line.bytes_written.Tie as tie
 
 pub bytes-written-spec : {M : Type 1} → statement M
 unfolding bytesWritten

@@ -1,8 +1,8 @@
 -- The line is taken, and its answer is put over the same buffer.
 use borrow.Author.Needs.{needs}
-use Rattle.script_line.proofs.Printing.{prints-line}
-use Rattle.script_line.proofs.print_line.Statement.{statement}
-use Rattle.script_line.proofs.print_line.Tie as tie
+use Rattle.script.proofs.Printing.{prints-line}
+use Rattle.script.proofs.line.print_line.Statement.{statement}
+use Rattle.script.proofs.line.print_line.Tie as tie
 
 pub print-line-spec : {M : Type 1} → statement M
 print-line-spec = tie.close (tie.spec

@@ -1,6 +1,6 @@
-use Rattle.script_line.specs.Parts.{sheetLength}
-use Rattle.script_line.proofs.sheet_length.Statement.{statement}
-use Rattle.script_line.proofs.sheet_length.Tie as tie
+use Rattle.script.specs.Parts.{sheetLength}
+use Rattle.script.proofs.line.sheet_length.Statement.{statement}
+use Rattle.script.proofs.line.sheet_length.Tie as tie
 
 pub sheet-length-spec : {M : Type 1} → statement M
 unfolding sheetLength

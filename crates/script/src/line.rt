@@ -1,23 +1,19 @@
-// One line's answer as it is printed: its answer's line, or the sheet. Knows nothing of where lines come from.
+// One line's answer as it is printed: its answer's line, or the sheet.
 ghost use Prim.Native.Nat.{_≤_};
 ghost use mathlib.Core.Path.{_≡_};
 ghost use lib.ListN.{length};
 ghost use Rattle.script_call.specs.Calls.{call};
-ghost use Rattle.script_line.specs.Prints.{leaves, prints};
-ghost use Rattle.script_line.specs.Parts.{Prints, PutsAnswer, bytesWritten, sheetLength};
+ghost use Rattle.script.specs.Prints.{leaves, prints};
+ghost use Rattle.script.specs.Parts.{Prints, PutsAnswer, bytesWritten, sheetLength};
+use crate::Printed;
 use driver::LineAnswer;
 use driver::put_line;
 use driver::take_line;
 use head_driver::head_lifecycle::Driver;
 use script_value::buffer::Written;
 
-pub struct Printed {
-    pub driver: Driver,
-    pub written: usize,
-}
-
 // The bytes of a sheet that stands in the caller's buffer.
-pub fn sheet_length(answer: LineAnswer) -> usize
+pub(crate) fn sheet_length(answer: LineAnswer) -> usize
     ensures { λ r. ⌜ r ≡ sheetLength answer ⌝ }
 {
     match answer {
@@ -42,16 +38,15 @@ pub(crate) fn put_answer(out: &mut [u8], answer: LineAnswer) -> usize
     requires { ⌜ 512 ≤ length (now out) ⌝ }
     ensures { λ r. ⌜ PutsAnswer answer (now (out .entry)) (now (out .exit)) r ⌝ }
 {
-    match answer {
-        LineAnswer::Said(said) => bytes_written(put_line(out, LineAnswer::Said(said))),
-        LineAnswer::NoCall => bytes_written(put_line(out, LineAnswer::NoCall)),
-        LineAnswer::SheetTooShort => bytes_written(put_line(out, LineAnswer::SheetTooShort)),
-        LineAnswer::Sheet(n) => n,
+    let n = sheet_length(answer);
+    if n > 0 {
+        return n;
     }
+    bytes_written(put_line(out, answer))
 }
 
 // Answers a line at the front of a buffer, which serves as the sheet's buffer too.
-pub fn print_line(d: Driver, line: &[u8], out: &mut [u8]) -> Printed
+pub(crate) fn print_line(d: Driver, line: &[u8], out: &mut [u8]) -> Printed
     requires { ⌜ 4096 ≤ length (now out) ⌝ }
     ensures { λ r. ⌜ Prints (prints d (call (now (line .entry)))) (leaves d (call (now (line .entry)))) (now (out .entry)) (now (out .exit)) r ⌝ }
 {

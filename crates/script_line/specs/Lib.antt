@@ -1,3 +1,0 @@
--- Prints is the paper's: what a line prints. Parts is the helpers'.
-pub mod Prints
-pub mod Parts
