@@ -17,18 +17,18 @@ use Rattle.driver.specs.Turns.{Takes, made, sheetAfter, sheetAnswer, tur
 use Rattle.driver.specs.declared.LineAnswer.{LineAnswer}
 use Rattle.driver.specs.declared.Turn.{Turn}
 
-module _ (d : Driver) (line old : List ℕ) (asked : LineCall) (read : asked ≡ call line) (t : Turn) where
-  pub took-no-call : asked ≡ LineCall.NoCall → t ≡ turn d LineAnswer.NoCall → Takes d line old old t
+module _ (d : Driver) (line old : List ℕ) (asked : LineCall) (read : asked ≡ call line) where
+  pub took-no-call : asked ≡ LineCall.NoCall → Takes d line old old (turn d LineAnswer.NoCall)
   unfolding turnOf sheetAfter
-  took-no-call e told = record { turned = rw (← read, e) told; sheet = rw (← read, e) }
+  took-no-call e = record { turned = rw (← read, e); sheet = rw (← read, e) }
 
-  pub took-sheet : (new : List ℕ) (w : Written) → asked ≡ LineCall.Sheet → AtFront 4096 old new (sheetText d) w → t ≡ turn d (sheetAnswer w) → Takes d line old new t
+  pub took-sheet : (new : List ℕ) (w : Written) (a : LineAnswer) → asked ≡ LineCall.Sheet → AtFront 4096 old new (sheetText d) w → a ≡ sheetAnswer w → Takes d line old new (turn d a)
   unfolding turnOf sheetAfter
-  took-sheet new w e front told = record {
-    turned = rw (← read, e) (told ∙ ap (λ (x : Written). turn d (sheetAnswer x)) (front .result));
+  took-sheet new w a e front told = record {
+    turned = rw (← read, e) (ap (λ (x : LineAnswer). turn d x) (told ∙ ap sheetAnswer (front .result)));
     sheet = rw (← read, e) (front .bytes);
   }
 
-  pub took-call : (c : Call) (reply : Reply) → asked ≡ LineCall.Make c → Replies reply (step d c) → t ≡ made reply → Takes d line old old t
+  pub took-call : (c : Call) (reply : Reply) (t : Turn) → asked ≡ LineCall.Make c → Replies reply (step d c) → t ≡ made reply → Takes d line old old t
   unfolding turnOf sheetAfter
-  took-call c reply e replies told = record { turned = rw (← read, e) (told ∙ ap made (replies .exact)); sheet = rw (← read, e) }
+  took-call c reply t e replies told = record { turned = rw (← read, e) (told ∙ ap made (replies .exact)); sheet = rw (← read, e) }

@@ -4,8 +4,7 @@ ghost use Prim.Native.Nat.{_≤_};
 ghost use mathlib.Core.Path.{_≡_};
 ghost use lib.ListN.{length};
 ghost use Rattle.script_value.specs.Buffers.{AtFront};
-ghost use Rattle.driver.specs.declared.LineAnswer.{LineAnswer};
-ghost use Rattle.driver.specs.Turns.{Takes, made, sheetAnswer, lineText, turn};
+ghost use Rattle.driver.specs.Turns.{Takes, made, sheetAnswer, lineText};
 use head_driver::head_lifecycle::Answer;
 use head_driver::head_lifecycle::Driver;
 use head_driver::head_lifecycle::Reply;
@@ -50,32 +49,20 @@ pub(crate) fn sheet_answer(written: Written) -> LineAnswer
     }
 }
 
-pub(crate) fn no_call(d: Driver) -> Turn
-    ensures { λ r. ⌜ r ≡ turn d LineAnswer.NoCall ⌝ }
-{
-    Turn {
-        driver: d,
-        answer: LineAnswer::NoCall,
-    }
-}
-
-pub(crate) fn sheet_put(d: Driver, written: Written) -> Turn
-    ensures { λ r. ⌜ r ≡ turn d (sheetAnswer written) ⌝ }
-{
-    Turn {
-        driver: d,
-        answer: sheet_answer(written),
-    }
-}
-
 // A line without its line feed. Only `(sheet)` looks at the sheet buffer.
 pub fn take_line(d: Driver, line: &[u8], sheet: &mut [u8]) -> Turn
     ensures { λ r. ⌜ Takes d (now (line .entry)) (now (sheet .entry)) (now (sheet .exit)) r ⌝ }
 {
     match read_call(line) {
-        LineCall::NoCall => return no_call(d),
-        LineCall::Sheet => return sheet_put(d, put_sheet(sheet, d)),
-        LineCall::Make(call) => return made(step(d, call)),
+        LineCall::NoCall => Turn {
+            driver: d,
+            answer: LineAnswer::NoCall,
+        },
+        LineCall::Sheet => Turn {
+            driver: d,
+            answer: sheet_answer(put_sheet(sheet, d)),
+        },
+        LineCall::Make(call) => made(step(d, call)),
     }
 }
 

@@ -1,7 +1,5 @@
 -- One line's answer at the front of a buffer.
-use Prim.Native.Nat.{ℕ, _≤_, _<_}
-use native.Mathlib.Nat.{not-suc-le-zero}
-use native.Mathlib.Omega.{arith}
+use Prim.Native.Nat.{ℕ, _≤_}
 use mathlib.Core.List.{List}
 use mathlib.Core.Path.{_≡_, refl, ap, sym, _∙_}
 use lib.ListN.{length}
@@ -16,7 +14,7 @@ use Rattle.head_driver.specs.declared.head_lifecycle.Driver.{Driver}
 use Rattle.script_call.specs.declared.LineCall.{LineCall}
 use Rattle.script_value.specs.declared.buffer.Written.{Written}
 use Rattle.script.specs.Prints.{leaves, prints}
-use Rattle.script.specs.Parts.{Prints, PutsAnswer, answerLength, atFront, bytesWritten, sheetLength}
+use Rattle.script.specs.Parts.{Prints, PutsAnswer, answerLength, atFront, bytesWritten}
 
 -- an answer's line is put, and counted
 puts : (a : LineAnswer) (old new : List ℕ) (w : Written) (n : ℕ) → answerLength a ≡ length (lineText a) → 512 ≤ length old
@@ -27,28 +25,15 @@ puts a old new w n e room front told = record {
   count = told ∙ ap bytesWritten (front .result) ∙ rw (le-ltb (length old) 512 room) (sym e);
 }
 
--- a sheet stands in the buffer already
-sheet-stands : (a : LineAnswer) (old : List ℕ) → 0 < sheetLength a → PutsAnswer a old old (sheetLength a)
-unfolding sheetLength lineText answerLength atFront
-sheet-stands (LineAnswer.Said a) old h = absurd (not-suc-le-zero h)
-sheet-stands LineAnswer.NoCall old h = absurd (not-suc-le-zero h)
-sheet-stands LineAnswer.SheetTooShort old h = absurd (not-suc-le-zero h)
-sheet-stands (LineAnswer.Sheet n) old h = record { bytes = refl; count = refl }
+module _ (answer : LineAnswer) (old : List ℕ) where
+  -- every answer but a sheet
+  pub puts-line : (a : LineAnswer) (new : List ℕ) (w : Written) (n : ℕ) → answerLength a ≡ length (lineText a) → answer ≡ a → 512 ≤ length old
+      → AtFront 512 old new (lineText a) w → n ≡ bytesWritten w → PutsAnswer answer old new n
+  puts-line a new w n e is room front told = rw is (puts a old new w n e room front told)
 
-pub stands : (a : LineAnswer) (old : List ℕ) (n : ℕ) → n ≡ sheetLength a → 0 < n → PutsAnswer a old old n
-stands a old n told h = rw told (sheet-stands a old (rw told at h))
-
--- of every other answer the line is written
-line-counts : (a : LineAnswer) → sheetLength a ≤ 0 → answerLength a ≡ length (lineText a)
-unfolding sheetLength lineText answerLength
-line-counts (LineAnswer.Said a) h = refl
-line-counts LineAnswer.NoCall h = refl
-line-counts LineAnswer.SheetTooShort h = refl
-line-counts (LineAnswer.Sheet n) h = omega arith
-
-pub puts-line : (a : LineAnswer) (old new : List ℕ) (w : Written) (n s : ℕ) → s ≡ sheetLength a → s ≤ 0 → 512 ≤ length old
-    → AtFront 512 old new (lineText a) w → n ≡ bytesWritten w → PutsAnswer a old new n
-puts-line a old new w n s told none = puts a old new w n (line-counts a (rw told at none))
+  pub puts-sheet : (n : ℕ) → answer ≡ LineAnswer.Sheet n → PutsAnswer answer old old n
+  unfolding lineText answerLength atFront
+  puts-sheet n is = rw is (record { bytes = refl; count = refl })
 
 -- what a line prints stands at the front, whether the sheet was put or the answer's line
 module _ (d : Driver) (old : List ℕ) (room : 4096 ≤ length old) where

@@ -9,13 +9,6 @@ use Rattle.head_driver.specs.declared.head_lifecycle.Driver.{Driver}
 use Rattle.script_value.specs.declared.buffer.Written.{Written}
 use Rattle.script.specs.declared.Printed.{Printed}
 
--- the bytes of a sheet that stands in the buffer
-unfoldable pub sheetLength : LineAnswer → ℕ
-sheetLength (LineAnswer.Said a) = 0
-sheetLength LineAnswer.NoCall = 0
-sheetLength LineAnswer.SheetTooShort = 0
-sheetLength (LineAnswer.Sheet n) = n
-
 unfoldable pub bytesWritten : Written → ℕ
 bytesWritten Written.TooShort = 0
 bytesWritten (Written.Bytes n) = n

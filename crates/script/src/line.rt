@@ -4,25 +4,13 @@ ghost use mathlib.Core.Path.{_≡_};
 ghost use lib.ListN.{length};
 ghost use Rattle.script_call.specs.Calls.{call};
 ghost use Rattle.script.specs.Prints.{leaves, prints};
-ghost use Rattle.script.specs.Parts.{Prints, PutsAnswer, bytesWritten, sheetLength};
+ghost use Rattle.script.specs.Parts.{Prints, PutsAnswer, bytesWritten};
 use crate::Printed;
 use driver::LineAnswer;
 use driver::put_line;
 use driver::take_line;
 use head_driver::head_lifecycle::Driver;
 use script_value::buffer::Written;
-
-// The bytes of a sheet that stands in the caller's buffer.
-pub(crate) fn sheet_length(answer: LineAnswer) -> usize
-    ensures { λ r. ⌜ r ≡ sheetLength answer ⌝ }
-{
-    match answer {
-        LineAnswer::Said(_) => 0,
-        LineAnswer::NoCall => 0,
-        LineAnswer::SheetTooShort => 0,
-        LineAnswer::Sheet(n) => n,
-    }
-}
 
 pub(crate) fn bytes_written(written: Written) -> usize
     ensures { λ r. ⌜ r ≡ bytesWritten written ⌝ }
@@ -38,11 +26,12 @@ pub(crate) fn put_answer(out: &mut [u8], answer: LineAnswer) -> usize
     requires { ⌜ 512 ≤ length (now out) ⌝ }
     ensures { λ r. ⌜ PutsAnswer answer (now (out .entry)) (now (out .exit)) r ⌝ }
 {
-    let n = sheet_length(answer);
-    if n > 0 {
-        return n;
+    match answer {
+        LineAnswer::Said(said) => return bytes_written(put_line(out, LineAnswer::Said(said))),
+        LineAnswer::NoCall => return bytes_written(put_line(out, LineAnswer::NoCall)),
+        LineAnswer::SheetTooShort => return bytes_written(put_line(out, LineAnswer::SheetTooShort)),
+        LineAnswer::Sheet(n) => return n,
     }
-    bytes_written(put_line(out, answer))
 }
 
 // Answers a line at the front of a buffer, which serves as the sheet's buffer too.
