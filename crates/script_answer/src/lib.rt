@@ -10,7 +10,7 @@ use crate::lines::put_claimed;
 use crate::lines::put_completion;
 use crate::lines::put_done;
 use crate::lines::put_heads;
-use crate::lines::put_link_line;
+use crate::lines::put_link;
 use crate::lines::put_parked;
 use crate::lines::put_report_line;
 use crate::lines::put_stats_line;
@@ -24,7 +24,6 @@ use text_put::put::put_byte;
 
 mod lines;
 mod refusals;
-mod words;
 
 // No answer is longer than `heads`; the rest of the room is for answers to come.
 pub(crate) fn put_text(buf: &mut [u8], at: usize, answer: Answer) -> usize
@@ -40,7 +39,7 @@ pub(crate) fn put_text(buf: &mut [u8], at: usize, answer: Answer) -> usize
         Answer::View(view) => put_view(buf, at, view),
         Answer::Parked => put_parked(buf, at),
         Answer::Completion(end) => put_completion(buf, at, end),
-        Answer::Link(link) => put_link_line(buf, at, link),
+        Answer::Link(link) => put_link(buf, at, link),
         Answer::Report(report) => put_report_line(buf, at, report),
         Answer::Stats(stats) => put_stats_line(buf, at, stats),
         Answer::Heads(current, installed, previous) => put_heads(

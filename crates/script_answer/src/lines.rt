@@ -1,12 +1,12 @@
 // The line of each answer, without its line feed.
 ghost use Prim.Native.Nat.{_+_, _≤_};
+ghost use mathlib.Core.List.{_++_};
 ghost use lib.ListN.{length};
 ghost use Rattle.head_driver.specs.declared.head_lifecycle.Answer.{Answer};
 ghost use Rattle.script_answer.specs.Lines.{answerText};
+ghost use Rattle.script_outcome.specs.Texts.{sourceText};
+ghost use Rattle.text.specs.Ascii.{ascii};
 ghost use Rattle.text.specs.Writes.{Wrote};
-use crate::words::put_end;
-use crate::words::put_link;
-use crate::words::put_source;
 use head_anchor::read_hub::Link;
 use head_anchor::storage_memo::AnchorSlot;
 use head_attempt::head_lifecycle::HeadCompletion;
@@ -15,6 +15,7 @@ use head_count::head_lifecycle::HeadStats;
 use head_count::head_lifecycle::Seq;
 use head_current::head_lifecycle::LastReport;
 use head_ready::head_lifecycle::HeadView;
+use head_ready::head_lifecycle::Source;
 use script_ready::readiness::put_readiness;
 use script_ready::report::put_report;
 use script_value::counters::put_stats;
@@ -60,6 +61,20 @@ pub(crate) fn put_parked(buf: &mut [u8], at: usize) -> usize
     put(buf, at, b"(parked)")
 }
 
+// Puts `(view SOURCE `, up to the view's handle: each source has its whole text here, so that no word needs a writer of its own.
+pub(crate) fn put_view_source(buf: &mut [u8], at: usize, source: Source) -> usize
+    requires { ⌜ at + 18 ≤ length (now buf) ⌝ }
+    ensures { λ r. ⌜ Wrote (now (buf .entry)) (now (buf .exit)) at r (ascii "(view " ++ (sourceText source ++ ascii " ")) ⌝ }
+    ensures { λ r. ⌜ r ≤ at + 18 ⌝ }
+{
+    match source {
+        Source::Installed => put(buf, at, b"(view installed "),
+        Source::Provisional => put(buf, at, b"(view provisional "),
+        Source::Previous => put(buf, at, b"(view previous "),
+        Source::Spare => put(buf, at, b"(view spare "),
+    }
+}
+
 // The one place where what follows a view's handle is written.
 pub(crate) fn put_view(buf: &mut [u8], at: usize, view: HeadView) -> usize
     requires { ⌜ at + 92 ≤ length (now buf) ⌝ }
@@ -68,13 +83,11 @@ pub(crate) fn put_view(buf: &mut [u8], at: usize, view: HeadView) -> usize
 {
     let source = view.source;
     let readiness = view.readiness;
-    let i = put(buf, at, b"(view ");
-    let j = put_source(buf, i, source);
+    let i = put_view_source(buf, at, source);
+    let j = put_decimal(buf, i, view.handle);
     let k = put_byte(buf, j, b' ');
-    let l = put_decimal(buf, k, view.handle);
-    let m = put_byte(buf, l, b' ');
-    let n = put_readiness(buf, m, readiness);
-    put_byte(buf, n, b')')
+    let l = put_readiness(buf, k, readiness);
+    put_byte(buf, l, b')')
 }
 
 pub(crate) fn put_completion(buf: &mut [u8], at: usize, end: HeadCompletion) -> usize
@@ -82,19 +95,26 @@ pub(crate) fn put_completion(buf: &mut [u8], at: usize, end: HeadCompletion) -> 
     ensures { λ r. ⌜ Wrote (now (buf .entry)) (now (buf .exit)) at r (answerText (Answer.Completion end)) ⌝ }
     ensures { λ r. ⌜ r ≤ at + 23 ⌝ }
 {
-    let i = put(buf, at, b"(completion ");
-    let j = put_end(buf, i, end);
-    put_byte(buf, j, b')')
+    match end {
+        HeadCompletion::Open => put(buf, at, b"(completion none)"),
+        HeadCompletion::Settled => put(buf, at, b"(completion settled)"),
+        HeadCompletion::Superseded => put(buf, at, b"(completion superseded)"),
+        HeadCompletion::Abandoned => put(buf, at, b"(completion abandoned)"),
+    }
 }
 
-pub(crate) fn put_link_line(buf: &mut [u8], at: usize, link: Link) -> usize
+pub(crate) fn put_link(buf: &mut [u8], at: usize, link: Link) -> usize
     requires { ⌜ at + 22 ≤ length (now buf) ⌝ }
     ensures { λ r. ⌜ Wrote (now (buf .entry)) (now (buf .exit)) at r (answerText (Answer.Link link)) ⌝ }
     ensures { λ r. ⌜ r ≤ at + 22 ⌝ }
 {
-    let i = put(buf, at, b"(link ");
-    let j = put_link(buf, i, link);
-    put_byte(buf, j, b')')
+    match link {
+        Link::Linked => put(buf, at, b"(link linked)"),
+        Link::NoParent => put(buf, at, b"(link no-parent)"),
+        Link::NotConsecutive => put(buf, at, b"(link not-consecutive)"),
+        Link::HashUnknown => put(buf, at, b"(link hash-unknown)"),
+        Link::HashMismatch => put(buf, at, b"(link hash-mismatch)"),
+    }
 }
 
 pub(crate) fn put_report_line(buf: &mut [u8], at: usize, report: LastReport) -> usize

@@ -9,47 +9,36 @@ use Rattle.script_answer.proofs.put_text.Statement.{statement}
 use Rattle.script_answer.proofs.put_text.Tie as tie
 
 returns : tie.Need-returns
-unfolding answerText saidText said refusalOn valuesOn valueText wordText decimal decimalOn
 returns c = (rw (c .before .before .before .before .before .answer .given .1) (c .before .before .put-ticket .ensures .0), omega arith)
 
 returns-2 : tie.Need-returns-2
-unfolding answerText saidText said refusalOn valuesOn valueText wordText decimal decimalOn
 returns-2 c = (rw (c .before .before .before .before .before .answer2 .given .1) (c .before .before .put-claimed .ensures .0), omega arith)
 
 returns-3 : tie.Need-returns-3
-unfolding answerText saidText said refusalOn valuesOn valueText wordText decimal decimalOn
 returns-3 c = (rw (c .before .before .before .before .enum-told .given .1) (c .before .before .put-done .ensures .0), omega arith)
 
 returns-4 : tie.Need-returns-4
-unfolding answerText saidText said refusalOn valuesOn valueText wordText decimal decimalOn
 returns-4 c = (rw (c .before .before .before .before .before .answer3 .given .1) (c .before .before .put-head-outcome .ensures .0), omega arith)
 
 returns-5 : tie.Need-returns-5
-unfolding answerText saidText said refusalOn valuesOn valueText wordText decimal decimalOn
 returns-5 c = (rw (c .before .before .before .before .before .answer4 .given .1) (c .before .before .put-view .ensures .0), omega arith)
 
 returns-6 : tie.Need-returns-6
-unfolding answerText saidText said refusalOn valuesOn valueText wordText decimal decimalOn
 returns-6 c = (rw (c .before .before .before .before .enum-told2 .given .1) (c .before .before .put-parked .ensures .0), omega arith)
 
 returns-7 : tie.Need-returns-7
-unfolding answerText saidText said refusalOn valuesOn valueText wordText decimal decimalOn
 returns-7 c = (rw (c .before .before .before .before .before .answer5 .given .1) (c .before .before .put-completion .ensures .0), omega arith)
 
 returns-8 : tie.Need-returns-8
-unfolding answerText saidText said refusalOn valuesOn valueText wordText decimal decimalOn
-returns-8 c = (rw (c .before .before .before .before .before .answer6 .given .1) (c .before .before .put-link-line .ensures .0), omega arith)
+returns-8 c = (rw (c .before .before .before .before .before .answer6 .given .1) (c .before .before .put-link .ensures .0), omega arith)
 
 returns-9 : tie.Need-returns-9
-unfolding answerText saidText said refusalOn valuesOn valueText wordText decimal decimalOn
 returns-9 c = (rw (c .before .before .before .before .before .answer7 .given .1) (c .before .before .put-report-line .ensures .0), omega arith)
 
 returns-10 : tie.Need-returns-10
-unfolding answerText saidText said refusalOn valuesOn valueText wordText decimal decimalOn
 returns-10 c = (rw (c .before .before .before .before .before .answer8 .given .1) (c .before .before .put-stats-line .ensures .0), omega arith)
 
 returns-11 : tie.Need-returns-11
-unfolding answerText saidText said refusalOn valuesOn valueText wordText decimal decimalOn
 returns-11 c = (rw (c .before .before .before .before .before .answer9 .given .1) (c .before .before .put-heads .ensures .0), omega arith)
 
 returns-12 : tie.Need-returns-12

@@ -9,7 +9,6 @@ use Rattle.script_answer.proofs.refusals.put_head_outcome.Statement.{st
 use Rattle.script_answer.proofs.refusals.put_head_outcome.Tie as tie
 
 returns : tie.Need-returns
-unfolding answerText saidText said refusalOn valuesOn valueText wordText outcomeSaid decimal decimalOn
 returns c = (rw (c .before .before .before .before .before .outcome .given .1) (c .before .before .put-settled .ensures .0), omega arith)
 
 returns-2 : tie.Need-returns-2
@@ -21,11 +20,9 @@ unfolding answerText saidText said refusalOn valuesOn valueText wordText outcome
 returns-3 c = (rw (c .before .before .before .before .enum-told2 .given .1) (c .before .before .put-refused2 .ensures .0), omega arith)
 
 returns-4 : tie.Need-returns-4
-unfolding answerText saidText said refusalOn valuesOn valueText wordText outcomeSaid decimal decimalOn
 returns-4 c = (rw (c .before .before .before .before .before .outcome2 .given .1) (c .before .before .put-superseded .ensures .0), omega arith)
 
 returns-5 : tie.Need-returns-5
-unfolding answerText saidText said refusalOn valuesOn valueText wordText outcomeSaid decimal decimalOn
 returns-5 c = (rw (c .before .before .before .before .before .outcome3 .given .1) (c .before .before .put-foreign .ensures .0), omega arith)
 
 pub put-head-outcome-spec : {M : Type 1} → statement M

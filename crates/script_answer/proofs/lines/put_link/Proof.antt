@@ -1,30 +1,31 @@
 use native.Mathlib.Omega.{arith}
 use borrow.Author.Needs.{needs}
 use Rattle.head_anchor.specs.Values.{linkValue}
-use Rattle.value_text.specs.Values.{valueText}
+use Rattle.head_driver.specs.Answers.{said}
+use Rattle.value_text.specs.Values.{valueText, valuesOn}
 use Rattle.value_text.specs.Words.{wordText}
-use Rattle.script_outcome.specs.Texts.{linkText}
-use Rattle.script_answer.proofs.words.put_link.Statement.{statement}
-use Rattle.script_answer.proofs.words.put_link.Tie as tie
+use Rattle.script_answer.specs.Lines.{answerText, refusalOn, saidText}
+use Rattle.script_answer.proofs.lines.put_link.Statement.{statement}
+use Rattle.script_answer.proofs.lines.put_link.Tie as tie
 
 returns : tie.Need-returns
-unfolding linkText linkValue valueText wordText
+unfolding answerText saidText said linkValue refusalOn valuesOn valueText wordText
 returns c = (rw (c .before .before .before .before .before .enum-told .given .1) (c .before .before .put .ensures .0), omega arith)
 
 returns-2 : tie.Need-returns-2
-unfolding linkText linkValue valueText wordText
+unfolding answerText saidText said linkValue refusalOn valuesOn valueText wordText
 returns-2 c = (rw (c .before .before .before .before .before .enum-told2 .given .1) (c .before .before .put2 .ensures .0), omega arith)
 
 returns-3 : tie.Need-returns-3
-unfolding linkText linkValue valueText wordText
+unfolding answerText saidText said linkValue refusalOn valuesOn valueText wordText
 returns-3 c = (rw (c .before .before .before .before .before .enum-told3 .given .1) (c .before .before .put3 .ensures .0), omega arith)
 
 returns-4 : tie.Need-returns-4
-unfolding linkText linkValue valueText wordText
+unfolding answerText saidText said linkValue refusalOn valuesOn valueText wordText
 returns-4 c = (rw (c .before .before .before .before .before .enum-told4 .given .1) (c .before .before .put4 .ensures .0), omega arith)
 
 returns-5 : tie.Need-returns-5
-unfolding linkText linkValue valueText wordText
+unfolding answerText saidText said linkValue refusalOn valuesOn valueText wordText
 returns-5 c = (rw (c .before .before .before .before .before .enum-told5 .given .1) (c .before .before .put5 .ensures .0), omega arith)
 
 pub put-link-spec : {M : Type 1} → statement M

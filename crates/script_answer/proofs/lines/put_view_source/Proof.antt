@@ -1,30 +1,30 @@
 use native.Mathlib.Omega.{arith}
 use borrow.Author.Needs.{needs}
-use Rattle.head_driver.specs.Answers.{endValue}
+use Rattle.head_driver.specs.Answers.{sourceValue}
 use Rattle.value_text.specs.Values.{valueText}
 use Rattle.value_text.specs.Words.{wordText}
-use Rattle.script_outcome.specs.Texts.{endText}
-use Rattle.script_answer.proofs.words.put_end.Statement.{statement}
-use Rattle.script_answer.proofs.words.put_end.Tie as tie
+use Rattle.script_outcome.specs.Texts.{sourceText}
+use Rattle.script_answer.proofs.lines.put_view_source.Statement.{statement}
+use Rattle.script_answer.proofs.lines.put_view_source.Tie as tie
 
 returns : tie.Need-returns
-unfolding endText endValue valueText wordText
+unfolding sourceText sourceValue valueText wordText
 returns c = (rw (c .before .before .before .before .before .enum-told .given .1) (c .before .before .put .ensures .0), omega arith)
 
 returns-2 : tie.Need-returns-2
-unfolding endText endValue valueText wordText
+unfolding sourceText sourceValue valueText wordText
 returns-2 c = (rw (c .before .before .before .before .before .enum-told2 .given .1) (c .before .before .put2 .ensures .0), omega arith)
 
 returns-3 : tie.Need-returns-3
-unfolding endText endValue valueText wordText
+unfolding sourceText sourceValue valueText wordText
 returns-3 c = (rw (c .before .before .before .before .before .enum-told3 .given .1) (c .before .before .put3 .ensures .0), omega arith)
 
 returns-4 : tie.Need-returns-4
-unfolding endText endValue valueText wordText
+unfolding sourceText sourceValue valueText wordText
 returns-4 c = (rw (c .before .before .before .before .before .enum-told4 .given .1) (c .before .before .put4 .ensures .0), omega arith)
 
-pub put-end-spec : {M : Type 1} → statement M
-put-end-spec = tie.close (tie.spec
+pub put-view-source-spec : {M : Type 1} → statement M
+put-view-source-spec = tie.close (tie.spec
     (λ c. c .match .keys1) (search needs) (search needs) (λ c. c .match .keys2) (search needs)
     (search needs) (λ c. c .match .keys3) (search needs) (search needs) (λ c. c .match .keys4)
     (search needs) (search needs) (search needs) returns (search needs) returns-2
