@@ -14,7 +14,7 @@ use Rattle.head_call.specs.declared.head_lifecycle.Call.{Call}
 use Rattle.script_call.specs.declared.LineCall.{LineCall}
 use Rattle.script_value.specs.declared.buffer.Written.{Written}
 use Rattle.driver.specs.Turns.{Takes, made, sheetAfter, sheetAnswer, turn, turnOf}
-use Rattle.driver.specs.declared.LineAnswer.{LineAnswer}
+use Rattle.script_answer.specs.declared.LineAnswer.{LineAnswer}
 use Rattle.driver.specs.declared.Turn.{Turn}
 
 module _ (d : Driver) (line old : List ℕ) (asked : LineCall) (read : asked ≡ call line) where

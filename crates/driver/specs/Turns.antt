@@ -1,18 +1,16 @@
--- Document 01, "Lines (added)", "Turned away by the input": a line's answer, the next driver and the sheet buffer; and the answer's line.
+-- Document 01, "Lines (added)", "Turned away by the input": a line's answer, the next driver and the sheet buffer.
 use Prim.Native.Nat.{ℕ}
-use mathlib.Core.List.{List, []}
+use mathlib.Core.List.{List}
 use mathlib.Core.Path.{_≡_}
 use Rattle.head_step.specs.Steps.{step}
-use Rattle.script_answer.specs.Answers.{answerLine}
 use Rattle.script_call.specs.Calls.{call}
 use Rattle.script_sheet.specs.Sheets.{sheetText}
 use Rattle.script_value.specs.Buffers.{bufferAfter, written}
-use Rattle.text.specs.Ascii.{ascii}
 use Rattle.head_driver.specs.declared.head_lifecycle.Driver.{Driver}
 use Rattle.head_driver.specs.declared.head_lifecycle.Reply.{Reply}
 use Rattle.script_call.specs.declared.LineCall.{LineCall}
 use Rattle.script_value.specs.declared.buffer.Written.{Written}
-use Rattle.driver.specs.declared.LineAnswer.{LineAnswer}
+use Rattle.script_answer.specs.declared.LineAnswer.{LineAnswer}
 use Rattle.driver.specs.declared.Turn.{Turn}
 
 abbrev pub turn : Driver → LineAnswer → Turn
@@ -43,10 +41,3 @@ sheetAfter d (LineCall.Make c) buf = buf
 pub record Takes (d : Driver) (line old new : List ℕ) (r : Turn) : Type 0 where
   pub turned : r ≡ turnOf d (call line) old
   pub sheet : new ≡ sheetAfter d (call line) old
-
--- refusals 1 and 4 are `(refused N)`; a sheet has no answer line
-unfoldable pub lineText : LineAnswer → List ℕ
-lineText (LineAnswer.Said a) = answerLine a
-lineText LineAnswer.NoCall = ascii "(refused 1)\n"
-lineText LineAnswer.SheetTooShort = ascii "(refused 4)\n"
-lineText (LineAnswer.Sheet n) = []

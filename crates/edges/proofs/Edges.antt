@@ -4,12 +4,12 @@ use mathlib.Core.List.{List, [], _∷_, append-nil}
 use mathlib.Core.Path.{_≡_, refl, ap, ap₂, _∙_}
 use lib.ListN.{length}
 use borrow.Author.Tests.{le-ltb}
-use Rattle.driver.specs.Turns.{lineText, made, sheetAnswer, turnOf}
+use Rattle.driver.specs.Turns.{made, sheetAnswer, turnOf}
 use Rattle.head_driver.specs.New.{new}
 use Rattle.head_step.specs.Steps.{step}
 use Rattle.rules.proofs.Feeds.{sheet-wrote}
 use Rattle.rules.specs.Sheets.{toLastFeed, wroteOf}
-use Rattle.script_answer.specs.Answers.{answerLine}
+use Rattle.script_answer.specs.Answers.{answerLine, lineText}
 use Rattle.script_call.specs.Calls.{call}
 use Rattle.script_sheet.specs.Sheets.{sheetText}
 use Rattle.script_value.specs.Buffers.{written}

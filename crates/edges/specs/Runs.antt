@@ -1,7 +1,8 @@
 -- What lines print, one after another.
 use Prim.Native.Nat.{ℕ}
 use mathlib.Core.List.{List, [], _∷_, _++_}
-use Rattle.driver.specs.Turns.{lineText, sheetAfter, turnOf}
+use Rattle.driver.specs.Turns.{sheetAfter, turnOf}
+use Rattle.script_answer.specs.Answers.{lineText}
 use Rattle.rules.specs.Sheets.{toLastFeed, wroteOf}
 use Rattle.script_call.specs.Calls.{call}
 use Rattle.head_driver.specs.declared.head_lifecycle.Driver.{Driver}

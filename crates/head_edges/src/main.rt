@@ -19,7 +19,8 @@ use head_driver::head_lifecycle::Driver;
 use head_driver::head_lifecycle::new;
 use head_step::head_lifecycle::step;
 use libc::STDOUT_FILENO;
-use script_answer::put_answer;
+use script_answer::LineAnswer;
+use script_answer::put_line;
 use script_value::buffer::Written;
 
 fn length_of(written: Written) -> usize
@@ -46,7 +47,7 @@ fn show(answer: Answer) -> u64
     ensures { λ r. ⌜ r ≡ said answer .number ⌝ }
 {
     let mut line = [0u8; 512];
-    let n = length_of(put_answer(&mut line, answer));
+    let n = length_of(put_line(&mut line, LineAnswer::Said(answer)));
     write_front(&line, n);
     answer.number()
 }

@@ -9,9 +9,9 @@ use Rattle.alike.specs.Invariant.{Invariant}
 use Rattle.alike.specs.Runs as R
 use Rattle.alike.specs.Statements as C
 use Rattle.answer_back.proofs.Answers.{answer-injective}
-use Rattle.driver.specs.Turns.{lineText, made, turnOf}
+use Rattle.driver.specs.Turns.{made, turnOf}
 use Rattle.head_step.specs.Steps.{step}
-use Rattle.script_answer.specs.Answers.{answerLine}
+use Rattle.script_answer.specs.Answers.{answerLine, lineText}
 use Rattle.script_call.proofs.Back.{call-back, sheet-back}
 use Rattle.script_call.proofs.Only.{sheet-only}
 use Rattle.script_call.proofs.Ranges.{call-range}

@@ -5,7 +5,7 @@ use mathlib.Core.List.{List, _++_}
 use mathlib.Core.Path.{_≡_, refl, ap}
 use lib.ListN.{getD}
 use Rattle.answer_back.proofs.Forms.{line-form}
-use Rattle.driver.specs.Turns.{lineText}
+use Rattle.script_answer.specs.Answers.{lineText}
 use Rattle.head_driver.specs.Answers.{outcomeSaid, said}
 use Rattle.script_answer.specs.Lines.{refusalOn}
 use Rattle.value_text.specs.Texts.{anchorText}
@@ -13,7 +13,7 @@ use Rattle.value_text.specs.Values.{valuesOn}
 use Rattle.value_text.specs.Words.{wordText}
 use Rattle.text.specs.Ascii.{ascii}
 use Rattle.text.specs.Decimals.{decimal, decimalOn}
-use Rattle.driver.specs.declared.LineAnswer.{LineAnswer}
+use Rattle.script_answer.specs.declared.LineAnswer.{LineAnswer}
 use Rattle.head_driver.specs.declared.head_lifecycle.Answer.{Answer}
 use Rattle.head_ready.specs.declared.head_lifecycle.HeadOutcome.{HeadOutcome}
 use Rattle.value_text.specs.declared.page.Page.{Page}

@@ -2,7 +2,8 @@
 use Prim.Native.Nat.{ℕ, _<_}
 use mathlib.Core.List.{List, [], _∷_}
 use mathlib.Core.Path.{_≡_}
-use Rattle.driver.specs.Turns.{lineText, turnOf}
+use Rattle.driver.specs.Turns.{turnOf}
+use Rattle.script_answer.specs.Answers.{lineText}
 use Rattle.script_call.specs.Calls.{call}
 use Rattle.text.specs.Ascii.{ascii}
 use Rattle.driver.specs.declared.Turn.{Turn}

@@ -5,7 +5,7 @@ use mathlib.Core.Path.{_≡_}
 use Rattle.value_text.specs.Texts.{anchorText}
 use Rattle.text.specs.Ascii.{ascii}
 use Rattle.text.specs.Decimals.{decimal}
-use Rattle.driver.specs.declared.LineAnswer.{LineAnswer}
+use Rattle.script_answer.specs.declared.LineAnswer.{LineAnswer}
 use Rattle.head_anchor.specs.declared.storage_memo.ReadAnchor.{ReadAnchor}
 use Rattle.head_driver.specs.declared.head_lifecycle.Answer.{Answer}
 use Rattle.head_ready.specs.declared.head_lifecycle.HeadOutcome.{HeadOutcome}

@@ -7,7 +7,7 @@ use Rattle.driver.specs.Turns.{sheetAfter, turnOf}
 use Rattle.hash.specs.Logic.{if}
 use Rattle.script_call.specs.Calls.{call}
 use Rattle.text.specs.Ascii.{ascii}
-use Rattle.driver.specs.declared.LineAnswer.{LineAnswer}
+use Rattle.script_answer.specs.declared.LineAnswer.{LineAnswer}
 use Rattle.head_driver.specs.declared.head_lifecycle.Driver.{Driver}
 
 -- a byte in front of a text that was cut so: a line feed, which is 10, stays, and so does whatever stands before one

@@ -4,7 +4,8 @@ use mathlib.Core.List.{List}
 use mathlib.Core.Logic.{_↔_}
 use mathlib.Core.Path.{_≡_}
 use Rattle.alike.specs.Invariant.{Invariant}
-use Rattle.driver.specs.Turns.{lineText, sheetAfter, turnOf}
+use Rattle.driver.specs.Turns.{sheetAfter, turnOf}
+use Rattle.script_answer.specs.Answers.{lineText}
 use Rattle.head_current.specs.Heads.{delivery}
 use Rattle.script_call.specs.Calls.{call}
 use Rattle.driver.specs.declared.Turn.{Turn}

@@ -4,11 +4,12 @@ use mathlib.Core.List.{List}
 use mathlib.Core.Path.{_≡_, refl, ap, sym, _∙_}
 use lib.ListN.{length}
 use borrow.Author.Tests.{le-ltb}
-use Rattle.driver.specs.Turns.{Takes, lineText, made, sheetAfter, sheetAnswer, turnOf}
+use Rattle.driver.specs.Turns.{Takes, made, sheetAfter, sheetAnswer, turnOf}
+use Rattle.script_answer.specs.Answers.{lineText}
 use Rattle.script_call.specs.Calls.{call}
 use Rattle.script_sheet.specs.Sheets.{sheetText}
 use Rattle.script_value.specs.Buffers.{AtFront, bufferAfter, written}
-use Rattle.driver.specs.declared.LineAnswer.{LineAnswer}
+use Rattle.script_answer.specs.declared.LineAnswer.{LineAnswer}
 use Rattle.driver.specs.declared.Turn.{Turn}
 use Rattle.head_driver.specs.declared.head_lifecycle.Driver.{Driver}
 use Rattle.script_call.specs.declared.LineCall.{LineCall}

@@ -1,7 +1,8 @@
 -- Document 01, "Lines (added)": what a line prints, and the driver that it leaves.
 use Prim.Native.Nat.{ℕ}
 use mathlib.Core.List.{List, []}
-use Rattle.driver.specs.Turns.{lineText, turnOf}
+use Rattle.driver.specs.Turns.{turnOf}
+use Rattle.script_answer.specs.Answers.{lineText}
 use Rattle.script_sheet.specs.Sheets.{sheetText}
 use Rattle.head_driver.specs.declared.head_lifecycle.Driver.{Driver}
 use Rattle.script_call.specs.declared.LineCall.{LineCall}
