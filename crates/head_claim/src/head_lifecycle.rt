@@ -2,14 +2,16 @@
 ghost use mathlib.Core.Path.{_≡_};
 ghost use Rattle.head_claim.specs.Claim.{claim};
 ghost use Rattle.head_claim.specs.Claimed.{claimed, claimedHead};
-ghost use Rattle.head_claim.specs.Parts.{claimAs};
-ghost use Rattle.head_claim.specs.Starts.{claimGate, claimStart, claimStartAt};
+ghost use Rattle.head_claim.specs.Parts.{claimAs, claimNext, startOf};
+ghost use Rattle.head_claim.specs.Starts.{claimGate, claimStart};
+ghost use Rattle.head_current.specs.Heads.{delivery};
 ghost use Rattle.head_driver.specs.Answers.{Replies};
 use head_anchor::storage_memo::AnchorSlot;
 use head_anchor::storage_memo::holds;
 use head_attempt::head_lifecycle::ClaimAttempt;
 use head_count::head_lifecycle::Epoch;
 use head_current::head_lifecycle::CurrentHead;
+use head_current::head_lifecycle::DeliverySlot;
 use head_current::head_lifecycle::HeadDelivery;
 use head_current::head_lifecycle::HeadTicket;
 use head_current::head_lifecycle::UnsettledHead;
@@ -17,7 +19,6 @@ use head_driver::head_lifecycle::Answer;
 use head_driver::head_lifecycle::Driver;
 use head_driver::head_lifecycle::Reply;
 use head_driver::head_lifecycle::answered;
-use head_driver::head_lifecycle::with_life;
 use head_life::head_lifecycle::HeadLifecycle;
 use head_ready::head_lifecycle::HeadOutcome;
 
@@ -45,38 +46,30 @@ pub(crate) fn claim_gate(
     ClaimStart::Refused(HeadOutcome::Superseded(anchor))
 }
 
+// What the head's state allows. Of no head nobody asks.
+pub(crate) fn claim_next(current: CurrentHead, epoch: Epoch) -> ClaimStart
+    ensures { λ r. ⌜ r ≡ claimNext current epoch ⌝ }
+{
+    match current {
+        CurrentHead::Unclaimed(_) => return ClaimStart::Claimed(epoch.next()),
+        CurrentHead::Preparing(_) => return ClaimStart::Refused(HeadOutcome::InFlight),
+        _ => return ClaimStart::Refused(HeadOutcome::AlreadySettled),
+    }
+}
+
 pub(crate) fn claim_start_at(
     installed: AnchorSlot,
     epoch: Epoch,
     current: CurrentHead,
     ticket: HeadTicket,
 ) -> ClaimStart
-    ensures { λ r. ⌜ r ≡ claimStartAt installed epoch current ticket ⌝ }
+    ensures { λ r. ⌜ r ≡ startOf installed epoch current ticket (delivery current) ⌝ }
 {
-    match current {
-        CurrentHead::Absent => {
-            let anchor = ticket.anchor;
-            return ClaimStart::Refused(HeadOutcome::Superseded(anchor));
-        }
-        CurrentHead::Unclaimed(u) => return claim_gate(
-            installed,
-            u.delivery,
-            ticket,
-            ClaimStart::Claimed(epoch.next()),
-        ),
-        CurrentHead::Preparing(u) => return claim_gate(
-            installed,
-            u.delivery,
-            ticket,
-            ClaimStart::Refused(HeadOutcome::InFlight),
-        ),
-        CurrentHead::Settled(s) => return claim_gate(
-            installed,
-            s.delivery,
-            ticket,
-            ClaimStart::Refused(HeadOutcome::AlreadySettled),
-        ),
-    }
+    let DeliverySlot::Held(held) = current.delivery() else {
+        let anchor = ticket.anchor;
+        return ClaimStart::Refused(HeadOutcome::Superseded(anchor));
+    };
+    claim_gate(installed, held, ticket, claim_next(current, epoch))
 }
 
 // What a claim would start; `claimed` then takes it.
@@ -88,22 +81,14 @@ pub(crate) fn claim_start(life: HeadLifecycle, ticket: HeadTicket) -> ClaimStart
     claim_start_at(installed.anchor(), life.claim_epoch, current, ticket)
 }
 
-pub(crate) fn claim_unsettled(u: UnsettledHead, epoch: Epoch) -> CurrentHead
-    ensures { λ r. ⌜ r ≡ claimedHead (CurrentHead.Unclaimed u) epoch ⌝ }
-{
-    let attempt = ClaimAttempt::minted(epoch);
-    CurrentHead::Preparing(UnsettledHead { attempt, ..u })
-}
-
 pub(crate) fn claimed_head(current: CurrentHead, epoch: Epoch) -> CurrentHead
     ensures { λ r. ⌜ r ≡ claimedHead current epoch ⌝ }
 {
-    match current {
-        CurrentHead::Absent => return current,
-        CurrentHead::Unclaimed(u) => return claim_unsettled(u, epoch),
-        CurrentHead::Preparing(_) => return current,
-        CurrentHead::Settled(_) => return current,
-    }
+    let CurrentHead::Unclaimed(u) = current else {
+        return current;
+    };
+    let attempt = ClaimAttempt::minted(epoch);
+    CurrentHead::Preparing(UnsettledHead { attempt, ..u })
 }
 
 pub(crate) fn claimed(life: HeadLifecycle, epoch: Epoch) -> HeadLifecycle
@@ -113,10 +98,11 @@ pub(crate) fn claimed(life: HeadLifecycle, epoch: Epoch) -> HeadLifecycle
     life.with_head(claimed_head(old, epoch), epoch)
 }
 
-pub(crate) fn claim_taken(d: Driver, epoch: Epoch) -> Reply
+pub(crate) fn claim_taken(mut d: Driver, epoch: Epoch) -> Reply
     ensures { λ r. ⌜ r ≡ claimAs d (ClaimStart.Claimed epoch) ⌝ }
 {
-    answered(with_life(d, claimed(d.life, epoch)), Answer::Claimed(epoch))
+    d.life = claimed(d.life, epoch);
+    answered(d, Answer::Claimed(epoch))
 }
 
 pub fn claim(d: Driver, ticket: HeadTicket) -> Reply

@@ -81,43 +81,20 @@ impl HeadStats {
         }
     }
 
-    pub fn raise(self, counter: Counter) -> HeadStats
+    pub fn raise(mut self, counter: Counter) -> HeadStats
         ensures { λ r. ⌜ r ≡ raise counter self ⌝ }
     {
         match counter {
-            Counter::Delivered => HeadStats {
-                delivered: raised(self.delivered),
-                ..self
-            },
-            Counter::Repeated => HeadStats {
-                repeated: raised(self.repeated),
-                ..self
-            },
-            Counter::Superseded => HeadStats {
-                superseded: raised(self.superseded),
-                ..self
-            },
-            Counter::Settled => HeadStats {
-                settled: raised(self.settled),
-                ..self
-            },
-            Counter::AlreadyCurrent => HeadStats {
-                already_current: raised(self.already_current),
-                ..self
-            },
-            Counter::Discarded => HeadStats {
-                discarded: raised(self.discarded),
-                ..self
-            },
-            Counter::ReadyViews => HeadStats {
-                ready_views: raised(self.ready_views),
-                ..self
-            },
-            Counter::ColdViews => HeadStats {
-                cold_views: raised(self.cold_views),
-                ..self
-            },
+            Counter::Delivered => self.delivered = raised(self.delivered),
+            Counter::Repeated => self.repeated = raised(self.repeated),
+            Counter::Superseded => self.superseded = raised(self.superseded),
+            Counter::Settled => self.settled = raised(self.settled),
+            Counter::AlreadyCurrent => self.already_current = raised(self.already_current),
+            Counter::Discarded => self.discarded = raised(self.discarded),
+            Counter::ReadyViews => self.ready_views = raised(self.ready_views),
+            Counter::ColdViews => self.cold_views = raised(self.cold_views),
         }
+        self
     }
 
     // A view was answered, ready or cold: the counter rises behind the reference. The Rust's `record_view`.

@@ -4,7 +4,7 @@ ghost use Rattle.head_current.specs.Heads.{delivery};
 ghost use Rattle.head_deliver.specs.Deliver.{deliver};
 ghost use Rattle.head_deliver.specs.Delivered.{countDelivery, countReplaced, delivered, newHead, replaced, unsettled};
 ghost use Rattle.head_deliver.specs.Parts.{deliverAs};
-ghost use Rattle.head_deliver.specs.Repeats.{redelivery, repeats, sameDelivery};
+ghost use Rattle.head_deliver.specs.Repeats.{repeats, sameDelivery};
 ghost use Rattle.head_driver.specs.Answers.{Replies};
 ghost use Rattle.head_driver.specs.Parts.{replyOf, withLife};
 ghost use Rattle.head_life.specs.State.{counted};
@@ -32,7 +32,6 @@ use head_driver::head_lifecycle::Driver;
 use head_driver::head_lifecycle::Reply;
 use head_driver::head_lifecycle::answered;
 use head_driver::head_lifecycle::ending;
-use head_driver::head_lifecycle::with_life;
 use head_life::head_lifecycle::HeadLifecycle;
 
 // Whether a delivery repeats the current head's, and then under which number.
@@ -50,24 +49,17 @@ pub(crate) fn same_delivery(held: HeadDelivery, anchor: ReadAnchor, parent_hash:
     )
 }
 
-pub(crate) fn redelivery_of(held: HeadDelivery, anchor: ReadAnchor, parent_hash: Hash) -> Redelivery
-    ensures { λ r. ⌜ r ≡ redelivery held anchor «parent_hash» ⌝ }
-{
-    if same_delivery(held, anchor, parent_hash) {
-        let seq = held.seq;
-        Redelivery::Of(seq)
-    } else {
-        Redelivery::New
-    }
-}
-
 pub(crate) fn repeats(slot: DeliverySlot, anchor: ReadAnchor, parent_hash: Hash) -> Redelivery
     ensures { λ r. ⌜ r ≡ repeats slot anchor «parent_hash» ⌝ }
 {
-    match slot {
-        DeliverySlot::Nothing => return Redelivery::New,
-        DeliverySlot::Held(held) => return redelivery_of(held, anchor, parent_hash),
+    let DeliverySlot::Held(held) = slot else {
+        return Redelivery::New;
+    };
+    if same_delivery(held, anchor, parent_hash) {
+        let seq = held.seq;
+        return Redelivery::Of(seq);
     }
+    Redelivery::New
 }
 
 // Whether a delivery repeats the current head's.
@@ -171,32 +163,26 @@ pub(crate) fn delivered(
         superseded,
         seq,
         stats,
+        installed,
         ..life
     }
 }
 
 // A delivery that repeats the current head's.
-pub(crate) fn repeated(d: Driver, seq: Seq) -> Reply
+pub(crate) fn repeated(mut d: Driver, seq: Seq) -> Reply
     ensures { λ r. ⌜ r ≡ replyOf (withLife d (counted (d .life) Counter.Repeated)) (Answer.Ticket seq) ⌝ }
 {
-    answered(
-        with_life(d, d.life.count(Counter::Repeated)),
-        Answer::Ticket(seq),
-    )
+    d.life = d.life.count(Counter::Repeated);
+    answered(d, Answer::Ticket(seq))
 }
 
-pub(crate) fn deliver_new(d: Driver, anchor: ReadAnchor, parent_hash: Hash, cold: u64) -> Reply
+pub(crate) fn deliver_new(mut d: Driver, anchor: ReadAnchor, parent_hash: Hash, cold: u64) -> Reply
     ensures { λ r. ⌜ r ≡ deliverAs d anchor «parent_hash» cold Redelivery.New ⌝ }
 {
     let seq = d.life.seq.next();
-    answered(
-        ending(
-            d,
-            delivered(d.life, anchor, parent_hash, cold),
-            HeadCompletion::Superseded,
-        ),
-        Answer::Ticket(seq),
-    )
+    let next = delivered(d.life, anchor, parent_hash, cold);
+    d = ending(d, next, HeadCompletion::Superseded);
+    answered(d, Answer::Ticket(seq))
 }
 
 pub fn deliver(d: Driver, anchor: ReadAnchor, parent_hash: Hash, cold: u64) -> Reply

@@ -65,21 +65,12 @@ impl Answer {
         ensures { λ r. ⌜ r ≡ said self .number ⌝ }
     {
         match self {
-            Answer::Ticket(_) => 0,
-            Answer::Claimed(_) => 0,
-            Answer::Done => 0,
             Answer::Outcome(outcome) => outcome_number(outcome),
-            Answer::View(_) => 0,
-            Answer::Parked => 0,
-            Answer::Completion(_) => 0,
-            Answer::Link(_) => 0,
-            Answer::Report(_) => 0,
-            Answer::Stats(_) => 0,
-            Answer::Heads(_, _, _) => 0,
             Answer::ListAtOdds => 2,
             Answer::WaiterOutOfRange => 3,
             Answer::WaiterTaken => 15,
             Answer::WaiterFree => 16,
+            _ => 0,
         }
     }
 }
@@ -103,38 +94,34 @@ pub fn answered(d: Driver, answer: Answer) -> Reply
     Reply { driver: d, answer }
 }
 
-pub fn with_life(d: Driver, life: HeadLifecycle) -> Driver
+pub fn with_life(mut d: Driver, life: HeadLifecycle) -> Driver
     ensures { λ r. ⌜ r ≡ withLife d life ⌝ }
 {
-    let mut next = d;
-    next.life = life;
-    next
+    d.life = life;
+    d
 }
 
 // Only a preparing head has waiters parked on it.
 pub(crate) fn wake_current(
     end: HeadCompletion,
-    current: CurrentHead,
+    life: HeadLifecycle,
     waiters: [WaiterSlot; 16],
 ) -> [WaiterSlot; 16]
-    ensures { λ r. ⌜ r ≡ wakeCurrent end current waiters ⌝ }
+    ensures { λ r. ⌜ r ≡ wakeCurrent end (life .current) waiters ⌝ }
 {
-    match current {
-        CurrentHead::Absent => return waiters,
-        CurrentHead::Unclaimed(_) => return waiters,
-        CurrentHead::Preparing(u) => return wake(end, u.delivery.anchor, waiters),
-        CurrentHead::Settled(_) => return waiters,
-    }
+    let current = life.current;
+    let CurrentHead::Preparing(u) = current else {
+        return waiters;
+    };
+    wake(end, u.delivery.anchor, waiters)
 }
 
 // The next lifecycle, with the current preparation, if there is one, ended so.
 pub fn ending(d: Driver, next: HeadLifecycle, end: HeadCompletion) -> Driver
     ensures { λ r. ⌜ r ≡ endingWith d next end ⌝ }
 {
-    let life = d.life;
-    let current = life.current;
     let old = d.waiters;
-    let waiters = wake_current(end, current, old);
+    let waiters = wake_current(end, d.life, old);
     Driver {
         life: next,
         waiters,

@@ -2,6 +2,7 @@
 use Prim.Native.Nat.{ℕ}
 use mathlib.Core.Bool.{Bool, false}
 use mathlib.Core.List.{List}
+use lib.Dec.{ltb}
 use lib.ListN.{getD, set}
 use Rattle.hash.specs.Logic.{if}
 use Rattle.head_anchor.specs.Anchors.{sameAnchor}
@@ -48,6 +49,10 @@ abandonedView v spare =
 unfoldable pub waiterAt : List WaiterSlot → ℕ → Waiter
 waiterAt ws n = getD ws n (slotOf Waiter.Free) .waiter
 
+-- the same of any number: past the sixteenth there is none, which reads as a free one
+unfoldable pub numbered : List WaiterSlot → ℕ → Waiter
+numbered ws n = if (ltb n 16) (waiterAt ws n) Waiter.Free
+
 -- the driver with that waiter under that number
 unfoldable pub put : Driver → ℕ → Waiter → Driver
 put d n w = record { life = d .life; waiters = set (d .waiters) n (slotOf w) }
@@ -69,6 +74,21 @@ join d n a spare =
     if (preparingAt (d .life .current) a)
     (replyOf (put d n Waiter.Parked) Answer.Parked)
     (viewedBy d n (view (d .life) a spare) (unowned (view (d .life) a spare)))
+
+-- whether that waiter is free, its number being within the sixteen or not
+unfoldable pub isFree : Waiter → Bool → Bool
+isFree Waiter.Free within = within
+isFree Waiter.Parked within = false
+isFree (Waiter.Abandoned a) within = false
+isFree (Waiter.Ended a) within = false
+
+-- 3 before 15
+unfoldable pub waitRefusal : ℕ → Answer
+waitRefusal n = if (ltb n 16) Answer.WaiterTaken Answer.WaiterOutOfRange
+
+-- 3 before 16
+unfoldable pub resumeRefusal : ℕ → Answer
+resumeRefusal n = if (ltb n 16) Answer.WaiterFree Answer.WaiterOutOfRange
 
 unfoldable pub waitAs : Driver → Waiter → ℕ → ReadAnchor → ℕ → Reply
 waitAs d Waiter.Free n a spare = join d n a spare

@@ -1,11 +1,12 @@
 // From head_lifecycle.rs: `BalHeadDriver::wait_for_head` and `abandoned_view`. A poll of its future is a call here: the first one `wait`, each later one `resume`.
+ghost use lib.Dec.{ltb};
 ghost use lib.ListN.{set};
 ghost use mathlib.Core.Path.{_≡_};
+ghost use Rattle.head_attempt.specs.Waiters.{slotOf};
 ghost use Rattle.head_driver.specs.Answers.{Replies};
 ghost use Rattle.head_driver.specs.Parts.{replyOf};
-ghost use Rattle.head_snapshot.specs.Views.{view};
 ghost use Rattle.head_waits.specs.Calls.{resume, wait};
-ghost use Rattle.head_waits.specs.Parts.{abandonedView, join, preparingAt, put, resumeAs, unowned, unownedReadiness, unownedReason, viewedBy, waitAs, waiterAt};
+ghost use Rattle.head_waits.specs.Parts.{abandonedView, isFree, join, numbered, preparingAt, put, resumeAs, resumeRefusal, unowned, unownedReason, viewedBy, waitRefusal};
 use head_anchor::storage_memo::ReadAnchor;
 use head_anchor::storage_memo::same_anchor;
 use head_attempt::head_lifecycle::Waiter;
@@ -35,22 +36,16 @@ pub(crate) fn unowned_reason(reason: HeadCold) -> HeadCold
     }
 }
 
-pub(crate) fn unowned_readiness(readiness: HeadReadiness) -> HeadReadiness
-    ensures { λ r. ⌜ r ≡ unownedReadiness readiness ⌝ }
-{
-    match readiness {
-        HeadReadiness::Ready => HeadReadiness::Ready,
-        HeadReadiness::Cold(reason) => HeadReadiness::Cold(unowned_reason(reason)),
-    }
-}
-
 // What a wait shows of a view that no live preparation owns.
 pub(crate) fn unowned(view: HeadView) -> HeadView
     ensures { λ r. ⌜ r ≡ unowned view ⌝ }
 {
     let old = view.readiness;
+    let HeadReadiness::Cold(reason) = old else {
+        return view;
+    };
     HeadView {
-        readiness: unowned_readiness(old),
+        readiness: HeadReadiness::Cold(unowned_reason(reason)),
         ..view
     }
 }
@@ -59,64 +54,54 @@ pub(crate) fn unowned(view: HeadView) -> HeadView
 pub(crate) fn abandoned_view(view: HeadView, spare: u64) -> HeadView
     ensures { λ r. ⌜ r ≡ abandonedView view spare ⌝ }
 {
-    let readiness = view.readiness;
-    let abandoned = HeadReadiness::Cold(HeadCold::Abandoned);
-    if readiness.is_ready() {
-        HeadView {
+    let old = view.readiness;
+    let readiness = HeadReadiness::Cold(HeadCold::Abandoned);
+    if old.is_ready() {
+        return HeadView {
             source: Source::Spare,
             handle: spare,
-            readiness: abandoned,
-        }
-    } else {
-        HeadView {
-            readiness: abandoned,
-            ..view
-        }
+            readiness,
+        };
     }
+    HeadView { readiness, ..view }
 }
 
-pub(crate) fn put_slot(waiters: [WaiterSlot; 16], n: u64, slot: WaiterSlot) -> [WaiterSlot; 16]
-    ensures { λ r. ⌜ r ≡ set waiters n slot ⌝ }
+pub(crate) fn put_waiter(mut waiters: [WaiterSlot; 16], n: u64, waiter: Waiter) -> [WaiterSlot; 16]
+    ensures { λ r. ⌜ r ≡ set waiters n (slotOf waiter) ⌝ }
 {
-    let mut out = waiters;
     if n < 16 {
         let i = n as usize;
-        out[i] = slot;
-        out
-    } else {
-        waiters
+        waiters[i] = WaiterSlot { waiter };
     }
+    waiters
 }
 
-pub(crate) fn put(d: Driver, n: u64, waiter: Waiter) -> Driver
+pub(crate) fn put(mut d: Driver, n: u64, waiter: Waiter) -> Driver
     ensures { λ r. ⌜ r ≡ put d n waiter ⌝ }
 {
     let old = d.waiters;
-    let waiters = put_slot(old, n, WaiterSlot { waiter });
-    let mut next = d;
-    next.waiters = waiters;
-    next
+    let waiters = put_waiter(old, n, waiter);
+    d.waiters = waiters;
+    d
 }
 
+// Past the sixteenth there is none, which reads as a free one.
 pub(crate) fn waiter_at(waiters: [WaiterSlot; 16], n: u64) -> Waiter
-    ensures { λ r. ⌜ r ≡ waiterAt waiters n ⌝ }
+    ensures { λ r. ⌜ r ≡ numbered waiters n ⌝ }
 {
     if n < 16 {
         let i = n as usize;
         let slot = waiters[i];
-        slot.waiter
-    } else {
-        Waiter::Free
+        return slot.waiter;
     }
+    Waiter::Free
 }
 
 // A view counts, and frees the number.
 pub(crate) fn viewed_by(d: Driver, n: u64, view: HeadView, shown: HeadView) -> Reply
     ensures { λ r. ⌜ r ≡ viewedBy d n view shown ⌝ }
 {
-    let counted = viewed(d, view, shown);
-    let answer = counted.answer;
-    answered(put(counted.driver, n, Waiter::Free), answer)
+    viewed(put(d, n, Waiter::Free), view, shown)
 }
 
 pub(crate) fn park(d: Driver, n: u64) -> Reply
@@ -125,29 +110,15 @@ pub(crate) fn park(d: Driver, n: u64) -> Reply
     answered(put(d, n, Waiter::Parked), Answer::Parked)
 }
 
-pub(crate) fn view_unowned(d: Driver, n: u64, view: HeadView) -> Reply
-    ensures { λ r. ⌜ r ≡ viewedBy d n view (unowned view) ⌝ }
-{
-    viewed_by(d, n, view, unowned(view))
-}
-
-pub(crate) fn preparing_head(current: CurrentHead, anchor: ReadAnchor) -> bool
-    ensures { λ r. ⌜ r ≡ preparingAt current anchor ⌝ }
-{
-    match current {
-        CurrentHead::Absent => return false,
-        CurrentHead::Unclaimed(_) => return false,
-        CurrentHead::Preparing(u) => return same_anchor(u.delivery.anchor, anchor),
-        CurrentHead::Settled(_) => return false,
-    }
-}
-
 // Whether a preparation is live at that anchor.
 pub(crate) fn preparing_at(life: HeadLifecycle, anchor: ReadAnchor) -> bool
     ensures { λ r. ⌜ r ≡ preparingAt (life .current) anchor ⌝ }
 {
     let current = life.current;
-    preparing_head(current, anchor)
+    let CurrentHead::Preparing(u) = current else {
+        return false;
+    };
+    same_anchor(u.delivery.anchor, anchor)
 }
 
 // One turn of the Rust's loop: park on the live preparation at that anchor, or answer.
@@ -157,58 +128,63 @@ pub(crate) fn join(d: Driver, n: u64, anchor: ReadAnchor, spare: u64) -> Reply
     if preparing_at(d.life, anchor) {
         return park(d, n);
     }
-    view_unowned(d, n, lookup(d.life, anchor, spare))
+    let view = lookup(d.life, anchor, spare);
+    viewed_by(d, n, view, unowned(view))
 }
 
-pub(crate) fn wait_as(d: Driver, waiter: Waiter, n: u64, anchor: ReadAnchor, spare: u64) -> Reply
-    ensures { λ r. ⌜ r ≡ waitAs d waiter n anchor spare ⌝ }
+// Whether there is a waiter of that number, and it is free.
+pub(crate) fn is_free(waiters: [WaiterSlot; 16], n: u64) -> bool
+    ensures { λ r. ⌜ r ≡ isFree (numbered waiters n) (ltb n 16) ⌝ }
 {
-    match waiter {
-        Waiter::Free => return join(d, n, anchor, spare),
-        Waiter::Parked => return answered(d, Answer::WaiterTaken),
-        Waiter::Abandoned(_) => return answered(d, Answer::WaiterTaken),
-        Waiter::Ended(_) => return answered(d, Answer::WaiterTaken),
+    let Waiter::Free = waiter_at(waiters, n) else {
+        return false;
+    };
+    n < 16
+}
+
+pub(crate) fn wait_refusal(n: u64) -> Answer
+    ensures { λ r. ⌜ r ≡ waitRefusal n ⌝ }
+{
+    if n < 16 {
+        return Answer::WaiterTaken;
     }
+    Answer::WaiterOutOfRange
 }
 
 pub fn wait(d: Driver, n: u64, anchor: ReadAnchor, spare: u64) -> Reply
     ensures { λ r. ⌜ Replies r (wait d n anchor spare) ⌝ }
 {
     let waiters = d.waiters;
-    if n < 16 {
-        return wait_as(d, waiter_at(waiters, n), n, anchor, spare);
+    if is_free(waiters, n) {
+        return join(d, n, anchor, spare);
     }
-    answered(d, Answer::WaiterOutOfRange)
+    answered(d, wait_refusal(n))
 }
 
-pub(crate) fn view_abandoned(d: Driver, n: u64, view: HeadView, spare: u64) -> Reply
-    ensures { λ r. ⌜ r ≡ viewedBy d n view (abandonedView view spare) ⌝ }
+pub(crate) fn view_abandoned(d: Driver, n: u64, anchor: ReadAnchor, spare: u64) -> Reply
+    ensures { λ r. ⌜ r ≡ resumeAs d (Waiter.Abandoned anchor) n spare ⌝ }
 {
+    let view = lookup(d.life, anchor, spare);
     viewed_by(d, n, view, abandoned_view(view, spare))
 }
 
-pub(crate) fn resume_as(d: Driver, waiter: Waiter, n: u64, spare: u64) -> Reply
-    ensures { λ r. ⌜ r ≡ resumeAs d waiter n spare ⌝ }
+pub(crate) fn resume_refusal(n: u64) -> Answer
+    ensures { λ r. ⌜ r ≡ resumeRefusal n ⌝ }
 {
-    match waiter {
-        Waiter::Free => return answered(d, Answer::WaiterFree),
-        Waiter::Parked => return answered(d, Answer::Parked),
-        Waiter::Abandoned(anchor) => return view_abandoned(
-            d,
-            n,
-            lookup(d.life, anchor, spare),
-            spare,
-        ),
-        Waiter::Ended(anchor) => return join(d, n, anchor, spare),
+    if n < 16 {
+        return Answer::WaiterFree;
     }
+    Answer::WaiterOutOfRange
 }
 
 pub fn resume(d: Driver, n: u64, spare: u64) -> Reply
     ensures { λ r. ⌜ Replies r (resume d n spare) ⌝ }
 {
     let waiters = d.waiters;
-    if n < 16 {
-        return resume_as(d, waiter_at(waiters, n), n, spare);
+    match waiter_at(waiters, n) {
+        Waiter::Free => return answered(d, resume_refusal(n)),
+        Waiter::Parked => return answered(d, Answer::Parked),
+        Waiter::Abandoned(anchor) => return view_abandoned(d, n, anchor, spare),
+        Waiter::Ended(anchor) => return join(d, n, anchor, spare),
     }
-    answered(d, Answer::WaiterOutOfRange)
 }

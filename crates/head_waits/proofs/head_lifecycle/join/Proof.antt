@@ -11,4 +11,5 @@ join-spec = tie.close (tie.spec
     (λ c. rw (← c .before .before .preparing-at .ensures, c .before .if1 .taken, ← c .park .ensures))
     (λ c κs. tt)
     (λ c κs. tt)
-    (λ c. rw (← c .before .before .before .preparing-at .ensures, c .before .before .if1 .left, ← c .before .lookup .ensures, ← c .view-unowned .ensures)))
+    (λ c κs. tt)
+    (λ c. rw (← c .before .before .before .before .preparing-at .ensures, c .before .before .before .if1 .left, ← c .before .before .lookup .ensures, ← c .before .unowned .ensures, ← c .viewed-by .ensures)))

@@ -7,4 +7,4 @@ pub put-spec : {M : Type 1} → statement M
 unfolding put
 put-spec = tie.close (tie.spec
     (λ c κs. tt)
-    (λ c. rw (← c .put-slot .ensures)))
+    (λ c. rw (← c .put-waiter .ensures)))

@@ -7,16 +7,16 @@ use lib.ListN.{length}
 use lib.Seq.{set-out}
 use borrow.Author.Needs.{needs}
 use Rattle.head_attempt.specs.declared.head_lifecycle.WaiterSlot.{WaiterSlot}
-use Rattle.head_waits.proofs.head_lifecycle.put_slot.Statement.{statement}
-use Rattle.head_waits.proofs.head_lifecycle.put_slot.Tie as tie
+use Rattle.head_waits.proofs.head_lifecycle.put_waiter.Statement.{statement}
+use Rattle.head_waits.proofs.head_lifecycle.put_waiter.Tie as tie
 
-pub put-slot-spec : {M : Type 1} → statement M
-put-slot-spec = tie.close (tie.spec
+pub put-waiter-spec : {M : Type 1} → statement M
+put-waiter-spec = tie.close (tie.spec
     (λ c. search needs)
     (λ c. search needs)
     (λ c. refl)
     (λ c.
-    let ws : List WaiterSlot = c .before .args .waiters in
+    let ws : List WaiterSlot = c .before .args .t1 in
     let n : ℕ = c .before .args .n in
     let long : length ws ≡ 16 = search needs in
     let past : length ws ≤ n = omega arith in
