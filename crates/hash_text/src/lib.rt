@@ -3,7 +3,7 @@
 ghost use Prim.Native.Nat.{_+_, _≤_, _<_};
 ghost use mathlib.Core.Path.{_≡_};
 ghost use lib.ListN.{length};
-ghost use Rattle.hash_text.specs.Hex.{digitValue, hexMore, hexNumber, joined as Hex·joined, glyph, hex, hexText};
+ghost use Rattle.hash_text.specs.Hex.{digitValue, hexMore, hexNumber, joined as Hex·joined, glyph, hex};
 ghost use Rattle.hash_text.specs.LineHashes.{lineHash, lineHashText};
 ghost use Rattle.hash_text.specs.SheetHashes.{sheetHashText};
 ghost use Rattle.hash_text.specs.Reads.{readHash};
@@ -155,9 +155,10 @@ pub(crate) fn put_hex(buf: &mut [u8], at: usize, n: u64) -> usize
     put(buf, at, &digits)
 }
 
-pub(crate) fn put_words(buf: &mut [u8], at: usize, h: Hash) -> usize
+// Puts a hash as a line has it.
+pub fn put_hash(buf: &mut [u8], at: usize, h: Hash) -> usize
     requires { ⌜ at + 64 ≤ length (now buf) ⌝ }
-    ensures { λ r. ⌜ Wrote (now (buf .entry)) (now (buf .exit)) at r (hexText h) ⌝ }
+    ensures { λ r. ⌜ Wrote (now (buf .entry)) (now (buf .exit)) at r (lineHashText h) ⌝ }
     ensures { λ r. ⌜ r ≤ at + 64 ⌝ }
 {
     let i = put_hex(buf, at, h.w0);
@@ -166,20 +167,11 @@ pub(crate) fn put_words(buf: &mut [u8], at: usize, h: Hash) -> usize
     put_hex(buf, k, h.w3)
 }
 
-// Puts a hash as a line has it.
-pub fn put_hash(buf: &mut [u8], at: usize, h: Hash) -> usize
-    requires { ⌜ at + 64 ≤ length (now buf) ⌝ }
-    ensures { λ r. ⌜ Wrote (now (buf .entry)) (now (buf .exit)) at r (lineHashText h) ⌝ }
-    ensures { λ r. ⌜ r ≤ at + 64 ⌝ }
-{
-    put_words(buf, at, h)
-}
-
-// Puts a hash as a sheet has it.
+// Puts a hash as a sheet has it, which is as a line has it.
 pub fn put_sheet_hash(buf: &mut [u8], at: usize, h: Hash) -> usize
     requires { ⌜ at + 64 ≤ length (now buf) ⌝ }
     ensures { λ r. ⌜ Wrote (now (buf .entry)) (now (buf .exit)) at r (sheetHashText h) ⌝ }
     ensures { λ r. ⌜ r ≤ at + 64 ⌝ }
 {
-    put_words(buf, at, h)
+    put_hash(buf, at, h)
 }
