@@ -20,14 +20,13 @@ use head_driver::head_lifecycle::Driver;
 use head_driver::head_lifecycle::Reply;
 use head_driver::head_lifecycle::answered;
 use head_driver::head_lifecycle::ending;
-use head_driver::head_lifecycle::with_life;
 use head_plan::head_lifecycle::ApplyPlan;
 use head_plan::head_lifecycle::plan_apply;
 use head_ready::head_lifecycle::HeadOutcome;
 use head_settle::head_lifecycle::settle;
 
 pub(crate) fn settle_as(
-    d: Driver,
+    mut d: Driver,
     anchor: ReadAnchor,
     outcome: CarryOutcome,
     handle: u64,
@@ -35,24 +34,17 @@ pub(crate) fn settle_as(
 ) -> Reply
     ensures { λ r. ⌜ r ≡ settleAs d anchor outcome handle report ⌝ }
 {
-    answered(
-        ending(
-            d,
-            settle(d.life, anchor, outcome, handle, report),
-            HeadCompletion::Settled,
-        ),
-        Answer::Outcome(HeadOutcome::Settled(outcome)),
-    )
+    let next = settle(d.life, anchor, outcome, handle, report);
+    d = ending(d, next, HeadCompletion::Settled);
+    answered(d, Answer::Outcome(HeadOutcome::Settled(outcome)))
 }
 
 // The refusals 11 and 12 are counted.
-pub(crate) fn discard(d: Driver, outcome: HeadOutcome) -> Reply
+pub(crate) fn discard(mut d: Driver, outcome: HeadOutcome) -> Reply
     ensures { λ r. ⌜ r ≡ replyOf (withLife d (counted (d .life) Counter.Discarded)) (Answer.Outcome outcome) ⌝ }
 {
-    answered(
-        with_life(d, d.life.count(Counter::Discarded)),
-        Answer::Outcome(outcome),
-    )
+    d.life = d.life.count(Counter::Discarded);
+    answered(d, Answer::Outcome(outcome))
 }
 
 pub(crate) fn admit(

@@ -14,7 +14,6 @@ use head_driver::head_lifecycle::Answer;
 use head_driver::head_lifecycle::Driver;
 use head_driver::head_lifecycle::Reply;
 use head_driver::head_lifecycle::answered;
-use head_driver::head_lifecycle::with_life;
 use head_life::head_lifecycle::HeadLifecycle;
 use head_ready::delta_snapshot::GenerationSlot;
 use head_ready::head_lifecycle::HeadCold;
@@ -110,14 +109,12 @@ pub fn lookup(life: HeadLifecycle, anchor: ReadAnchor, spare: u64) -> HeadView
 }
 
 // Counts the view and answers what is shown of it.
-pub fn viewed(d: Driver, view: HeadView, shown: HeadView) -> Reply
+pub fn viewed(mut d: Driver, view: HeadView, shown: HeadView) -> Reply
     ensures { λ r. ⌜ r ≡ viewed d view shown ⌝ }
 {
     let readiness = view.readiness;
-    answered(
-        with_life(d, d.life.record_view(readiness)),
-        Answer::View(shown),
-    )
+    d.life = d.life.record_view(readiness);
+    answered(d, Answer::View(shown))
 }
 
 pub fn snapshot(d: Driver, anchor: ReadAnchor, spare: u64) -> Reply
