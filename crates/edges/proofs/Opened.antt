@@ -50,7 +50,7 @@ use Rattle.hash_text.specs.Hex
 use Rattle.hash_text.specs.LineHashes
 use Rattle.hash_text.specs.Reads as HashReads
 use Rattle.hash_text.specs.SheetHashes
-use Rattle.call_value.specs.Values as CallValues
+use Rattle.script_call.specs.Values as CallValues
 use Rattle.script_call.specs.Calls as CallLines
 use Rattle.value_text.specs.Texts as ValueTexts
 use Rattle.value_text.specs.Values as ValueForms

@@ -5,7 +5,7 @@ use lib.ListN.{length, length-append}
 use Rattle.head_call.specs.declared.head_lifecycle.Call.{Call}
 use Rattle.text.proofs.Back.{length-decimal}
 use Rattle.hash_text.proofs.Back.{length-line-hash}
-use Rattle.call_value.proofs.Lengths.{length-anchor, length-slot, length-skip}
+use Rattle.script_call.proofs.ValuesLengths.{length-anchor, length-slot, length-skip}
 use Rattle.script_call.specs.Texts.{callText}
 
 pub length-call : (c : Call) → length (callText c) ≤ 297

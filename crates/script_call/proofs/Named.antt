@@ -1,4 +1,4 @@
--- A word that is compared with one keyword after another: each answer of `by_word` and `by_later_word`.
+-- A word that is compared with one keyword after another: each answer of the four functions that do it.
 use Prim.Native.Nat.{ℕ}
 use mathlib.Core.Path.{_≡_}
 use mathlib.Core.Bool.{Bool, true, false}
@@ -7,6 +7,7 @@ use Rattle.text.specs.Ascii.{ascii}
 use Rattle.text.specs.Same.{sameText}
 use Rattle.text.specs.Rests.{Rest}
 use Rattle.script_call.specs.Calls.{readDeliver, readClaim, readRelease, readApply, readSnapshot, readWait, readResume, readCompletion, readLink, readReport, readStats, readHeads, readSheet, laterNamed, callNamed}
+use Rattle.script_call.specs.Dispatch.{viewNamed, bareNamed}
 use Rattle.script_call.specs.declared.LineCall.{LineCall}
 
 module _ (w : List ℕ) (r : Rest) where
@@ -30,24 +31,29 @@ module _ (w : List ℕ) (r : Rest) where
           unfolding callNamed
           apply-named z f h = rw (← e₁, f₁, ← e₂, f₂, ← e₃, f₃, ← e₄, f) h
 
-          module _ (f₄ : t₄ ≡ false) (t₅ : Bool) (e₅ : t₅ ≡ sameText w (ascii "snapshot")) where
-            pub snapshot-named : (z : LineCall) → t₅ ≡ true → z ≡ readSnapshot r → z ≡ callNamed w r
-            unfolding callNamed
-            snapshot-named z f h = rw (← e₁, f₁, ← e₂, f₂, ← e₃, f₃, ← e₄, f₄, ← e₅, f) h
+          pub view-is : (z : LineCall) → t₄ ≡ false → z ≡ viewNamed w r → z ≡ callNamed w r
+          unfolding callNamed viewNamed
+          view-is z f h = rw (← e₁, f₁, ← e₂, f₂, ← e₃, f₃, ← e₄, f) h
 
-            module _ (f₅ : t₅ ≡ false) (t₆ : Bool) (e₆ : t₆ ≡ sameText w (ascii "wait")) where
-              pub wait-named : (z : LineCall) → t₆ ≡ true → z ≡ readWait r → z ≡ callNamed w r
-              unfolding callNamed
-              wait-named z f h = rw (← e₁, f₁, ← e₂, f₂, ← e₃, f₃, ← e₄, f₄, ← e₅, f₅, ← e₆, f) h
+module _ (w : List ℕ) (r : Rest) where
+  module _ (t₁ : Bool) (e₁ : t₁ ≡ sameText w (ascii "snapshot")) where
+    pub snapshot-named : (z : LineCall) → t₁ ≡ true → z ≡ readSnapshot r → z ≡ viewNamed w r
+    unfolding viewNamed
+    snapshot-named z f h = rw (← e₁, f) h
 
-              module _ (f₆ : t₆ ≡ false) (t₇ : Bool) (e₇ : t₇ ≡ sameText w (ascii "resume")) where
-                pub resume-named : (z : LineCall) → t₇ ≡ true → z ≡ readResume r → z ≡ callNamed w r
-                unfolding callNamed
-                resume-named z f h = rw (← e₁, f₁, ← e₂, f₂, ← e₃, f₃, ← e₄, f₄, ← e₅, f₅, ← e₆, f₆, ← e₇, f) h
+    module _ (f₁ : t₁ ≡ false) (t₂ : Bool) (e₂ : t₂ ≡ sameText w (ascii "wait")) where
+      pub wait-named : (z : LineCall) → t₂ ≡ true → z ≡ readWait r → z ≡ viewNamed w r
+      unfolding viewNamed
+      wait-named z f h = rw (← e₁, f₁, ← e₂, f) h
 
-                pub later-is : (z : LineCall) → t₇ ≡ false → z ≡ laterNamed w r → z ≡ callNamed w r
-                unfolding callNamed
-                later-is z f h = rw (← e₁, f₁, ← e₂, f₂, ← e₃, f₃, ← e₄, f₄, ← e₅, f₅, ← e₆, f₆, ← e₇, f) h
+      module _ (f₂ : t₂ ≡ false) (t₃ : Bool) (e₃ : t₃ ≡ sameText w (ascii "resume")) where
+        pub resume-named : (z : LineCall) → t₃ ≡ true → z ≡ readResume r → z ≡ viewNamed w r
+        unfolding viewNamed
+        resume-named z f h = rw (← e₁, f₁, ← e₂, f₂, ← e₃, f) h
+
+        pub later-is : (z : LineCall) → t₃ ≡ false → z ≡ laterNamed w r → z ≡ viewNamed w r
+        unfolding viewNamed
+        later-is z f h = rw (← e₁, f₁, ← e₂, f₂, ← e₃, f) h
 
 module _ (w : List ℕ) (r : Rest) where
   module _ (t₁ : Bool) (e₁ : t₁ ≡ sameText w (ascii "completion")) where
@@ -60,26 +66,31 @@ module _ (w : List ℕ) (r : Rest) where
       unfolding laterNamed
       link-named z f h = rw (← e₁, f₁, ← e₂, f) h
 
-      module _ (f₂ : t₂ ≡ false) (t₃ : Bool) (e₃ : t₃ ≡ sameText w (ascii "report")) where
-        pub report-named : (z : LineCall) → t₃ ≡ true → z ≡ readReport r → z ≡ laterNamed w r
-        unfolding laterNamed
-        report-named z f h = rw (← e₁, f₁, ← e₂, f₂, ← e₃, f) h
+      pub bare-is : (z : LineCall) → t₂ ≡ false → z ≡ bareNamed w r → z ≡ laterNamed w r
+      unfolding laterNamed bareNamed
+      bare-is z f h = rw (← e₁, f₁, ← e₂, f) h
 
-        module _ (f₃ : t₃ ≡ false) (t₄ : Bool) (e₄ : t₄ ≡ sameText w (ascii "stats")) where
-          pub stats-named : (z : LineCall) → t₄ ≡ true → z ≡ readStats r → z ≡ laterNamed w r
-          unfolding laterNamed
-          stats-named z f h = rw (← e₁, f₁, ← e₂, f₂, ← e₃, f₃, ← e₄, f) h
+module _ (w : List ℕ) (r : Rest) where
+  module _ (t₁ : Bool) (e₁ : t₁ ≡ sameText w (ascii "report")) where
+    pub report-named : (z : LineCall) → t₁ ≡ true → z ≡ readReport r → z ≡ bareNamed w r
+    unfolding bareNamed
+    report-named z f h = rw (← e₁, f) h
 
-          module _ (f₄ : t₄ ≡ false) (t₅ : Bool) (e₅ : t₅ ≡ sameText w (ascii "heads")) where
-            pub heads-named : (z : LineCall) → t₅ ≡ true → z ≡ readHeads r → z ≡ laterNamed w r
-            unfolding laterNamed
-            heads-named z f h = rw (← e₁, f₁, ← e₂, f₂, ← e₃, f₃, ← e₄, f₄, ← e₅, f) h
+    module _ (f₁ : t₁ ≡ false) (t₂ : Bool) (e₂ : t₂ ≡ sameText w (ascii "stats")) where
+      pub stats-named : (z : LineCall) → t₂ ≡ true → z ≡ readStats r → z ≡ bareNamed w r
+      unfolding bareNamed
+      stats-named z f h = rw (← e₁, f₁, ← e₂, f) h
 
-            module _ (f₅ : t₅ ≡ false) (t₆ : Bool) (e₆ : t₆ ≡ sameText w (ascii "sheet")) where
-              pub sheet-named : (z : LineCall) → t₆ ≡ true → z ≡ readSheet r → z ≡ laterNamed w r
-              unfolding laterNamed
-              sheet-named z f h = rw (← e₁, f₁, ← e₂, f₂, ← e₃, f₃, ← e₄, f₄, ← e₅, f₅, ← e₆, f) h
+      module _ (f₂ : t₂ ≡ false) (t₃ : Bool) (e₃ : t₃ ≡ sameText w (ascii "heads")) where
+        pub heads-named : (z : LineCall) → t₃ ≡ true → z ≡ readHeads r → z ≡ bareNamed w r
+        unfolding bareNamed
+        heads-named z f h = rw (← e₁, f₁, ← e₂, f₂, ← e₃, f) h
 
-              pub none-named : t₆ ≡ false → LineCall.NoCall ≡ laterNamed w r
-              unfolding laterNamed
-              none-named f = rw (← e₁, f₁, ← e₂, f₂, ← e₃, f₃, ← e₄, f₄, ← e₅, f₅, ← e₆, f)
+        module _ (f₃ : t₃ ≡ false) (t₄ : Bool) (e₄ : t₄ ≡ sameText w (ascii "sheet")) where
+          pub sheet-named : (z : LineCall) → t₄ ≡ true → z ≡ readSheet r → z ≡ bareNamed w r
+          unfolding bareNamed
+          sheet-named z f h = rw (← e₁, f₁, ← e₂, f₂, ← e₃, f₃, ← e₄, f) h
+
+          pub none-named : t₄ ≡ false → LineCall.NoCall ≡ bareNamed w r
+          unfolding bareNamed
+          none-named f = rw (← e₁, f₁, ← e₂, f₂, ← e₃, f₃, ← e₄, f)

@@ -14,8 +14,8 @@ use Rattle.text.specs.Ascii.{ascii}
 use Rattle.text.specs.Same.{sameText}
 use Rattle.text.specs.Rests.{Rest, at, stopped, after, wordHere, pastWord, atEnd}
 use Rattle.text.proofs.Same.{same-eq}
-use Rattle.call_value.proofs.Ranges.{chosen}
-use Rattle.call_value.proofs.Only.{after-only, past-only, spaced-number-only, spaced-hash-only, spaced-anchor-only, spaced-slot-only, spaced-skip-only}
+use Rattle.script_call.proofs.ValuesRanges.{chosen}
+use Rattle.script_call.proofs.ValuesOnly.{after-only, past-only, spaced-number-only, spaced-hash-only, spaced-anchor-only, spaced-slot-only, spaced-skip-only}
 use Rattle.script_call.specs.Calls.{ends, closed, spacedTicket, spacedList, readDeliver, readClaim, readRelease, readApply, readSnapshot, readWait, readResume, readCompletion, readLink, readReport, readStats, readHeads, readSheet, callNamed, laterNamed, callHere, call}
 use Rattle.script_call.specs.Texts.{callText, sheetCallText}
 use Rattle.head_call.specs.Ranges.{Writable}

@@ -1,22 +1,24 @@
 -- From places of a line to the calls that are read there: each answer of the readers.
 use Prim.Native.Nat.{ℕ, _<_, _≤_}
-use mathlib.Core.Path.{_≡_, refl}
+use native.Mathlib.Omega.{arith}
+use mathlib.Core.Path.{_≡_, refl, _∙_}
 use mathlib.Core.Bool.{Bool}
-use mathlib.Core.List.{List}
+use mathlib.Core.List.{List, [], _∷_}
 use lib.ListN.{length}
-use borrow.Author.Tests.{eq-eqb, ne-eqb, lt-ltb, le-ltb}
+use borrow.Author.Tests.{ne-eqb, lt-ltb, le-ltb}
 use Rattle.head_call.specs.declared.head_lifecycle.Call.{Call}
 use Rattle.text.specs.Ascii.{ascii}
-use Rattle.text.specs.Rests.{Rest, after, wordHere, past, pastWord, atEnd}
+use Rattle.text.specs.Rests.{Rest, at, step, after, wordHere, past, pastWord, atEnd}
+use Rattle.text.specs.Same.{sameText}
 use Rattle.text.specs.Places.{here, Reads}
 use Rattle.text.specs.declared.decimal.NumberFrom.{NumberFrom}
 use Rattle.text.specs.declared.place.Place.{Place}
 use Rattle.hash_text.specs.declared.HashFrom.{HashFrom}
-use Rattle.call_value.specs.Values.{spacedNumber, spacedHash, spacedAnchor, spacedSlot, spacedSkip}
-use Rattle.call_value.specs.declared.anchor.AnchorFrom.{AnchorFrom}
-use Rattle.call_value.specs.declared.anchor.SlotFrom.{SlotFrom}
-use Rattle.call_value.specs.declared.skip.SkipFrom.{SkipFrom}
-use Rattle.script_call.specs.Calls.{ends, closed, spacedTicket, spacedList, readDeliver, readClaim, readRelease, readApply, readSnapshot, readWait, readResume, readCompletion, readLink, callNamed, callHere, call}
+use Rattle.script_call.specs.Values.{spacedNumber, spacedHash, spacedAnchor, spacedSlot, spacedSkip}
+use Rattle.script_call.specs.declared.anchor.AnchorFrom.{AnchorFrom}
+use Rattle.script_call.specs.declared.anchor.SlotFrom.{SlotFrom}
+use Rattle.script_call.specs.declared.skip.SkipFrom.{SkipFrom}
+use Rattle.script_call.specs.Calls.{ends, closed, spacedTicket, spacedList, readDeliver, readClaim, readRelease, readApply, readSnapshot, readWait, readResume, readCompletion, readLink, callNamed, laterNamed, callHere, call}
 use Rattle.script_call.specs.declared.LineCall.{LineCall}
 use Rattle.script_call.specs.declared.ListFrom.{ListFrom}
 use Rattle.script_call.specs.declared.TicketFrom.{TicketFrom}
@@ -76,16 +78,16 @@ module _ (l : List ℕ) (r : Rest) where
 
 -- ---- a whole line
 
+line-here : (l : List ℕ) → length l ≤ 512 → callHere (after (ascii "(") (at l)) ≡ call l
+unfolding call callHere after step wordHere pastWord past callNamed laterNamed sameText
+line-here [] h = refl
+line-here (b ∷ s) h = let n = length (b ∷ s) in rw (ne-eqb n 0 (λ e. omega arith), le-ltb 512 n h)
+
 module _ (l : List ℕ) where
-  pub line-empty : length l ≡ 0 → LineCall.NoCall ≡ call l
+  pub line-long : 512 < length l → LineCall.NoCall ≡ call l
   unfolding call
-  line-empty h = rw (eq-eqb (length l) 0 h)
+  line-long h = rw (ne-eqb (length l) 0 (λ e. omega arith), lt-ltb 512 (length l) h)
 
-  module _ (n : length l ≡ 0 → ⊥) where
-    pub line-long : 512 < length l → LineCall.NoCall ≡ call l
-    unfolding call
-    line-long h = rw (ne-eqb (length l) 0 n, lt-ltb 512 (length l) h)
-
-    pub line-is : (q₁ q₂ : Place) (w : List ℕ) (z : LineCall) → length l ≤ 512 → here l q₁ ≡ after (ascii "(") (here l (Place.At 0)) → w ≡ wordHere (here l q₁) → here l q₂ ≡ past (length w) (here l q₁) → z ≡ callNamed w (here l q₂) → z ≡ call l
-    unfolding call callHere pastWord here
-    line-is q₁ q₂ w z h e f g k = rw (ne-eqb (length l) 0 n, le-ltb 512 (length l) h, ← e, ← f, ← g) k
+  pub line-is : (q₁ q₂ : Place) (w : List ℕ) (z : LineCall) → length l ≤ 512 → here l q₁ ≡ after (ascii "(") (here l (Place.At 0)) → w ≡ wordHere (here l q₁) → here l q₂ ≡ past (length w) (here l q₁) → z ≡ callNamed w (here l q₂) → z ≡ call l
+  unfolding callHere pastWord here
+  line-is q₁ q₂ w z h e f g k = let z-here : z ≡ callHere (after (ascii "(") (at l)) = rw (← e, ← f, ← g) k in z-here ∙ line-here l h

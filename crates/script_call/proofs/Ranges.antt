@@ -9,7 +9,7 @@ use Rattle.head_call.specs.declared.head_lifecycle.Call.{Call}
 use Rattle.text.specs.Ascii.{ascii}
 use Rattle.text.specs.Same.{sameText}
 use Rattle.text.specs.Rests.{Rest, at, after, wordHere, pastWord}
-use Rattle.call_value.proofs.Ranges.{chosen, spaced-number-range, spaced-hash-range, spaced-anchor-range, spaced-slot-range, spaced-skip-range}
+use Rattle.script_call.proofs.ValuesRanges.{chosen, spaced-number-range, spaced-hash-range, spaced-anchor-range, spaced-slot-range, spaced-skip-range}
 use Rattle.script_call.specs.Calls.{ends, closed, spacedTicket, spacedList, readDeliver, readClaim, readRelease, readApply, readSnapshot, readWait, readResume, readCompletion, readLink, readReport, readStats, readHeads, readSheet, callNamed, laterNamed, callHere, call}
 use Rattle.head_call.specs.Ranges.{Writable}
 use Rattle.script_call.specs.Ranges.{LineWritable}

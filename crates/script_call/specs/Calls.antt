@@ -11,7 +11,7 @@ use Rattle.head_call.specs.declared.head_lifecycle.Call.{Call}
 use Rattle.text.specs.Ascii.{ascii}
 use Rattle.text.specs.Same.{sameText}
 use Rattle.text.specs.Rests.{Rest, at, Took, after, wordHere, pastWord, atEnd}
-use Rattle.call_value.specs.Values.{spacedNumber, spacedHash, spacedAnchor, spacedSlot, spacedSkip}
+use Rattle.script_call.specs.Values.{spacedNumber, spacedHash, spacedAnchor, spacedSlot, spacedSkip}
 use Rattle.script_call.specs.declared.LineCall.{LineCall}
 
 -- `)` is all that is left of the line

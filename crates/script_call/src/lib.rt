@@ -1,13 +1,15 @@
-// Call lines: from the bytes of a line to the call that they write, or to no call.
+// Call lines: from the bytes of a line to the call that they write, or to no call. The values of a call are read in `spaced`, `anchor` and `skip`.
 // Knows nothing of what a call does, nor of answers.
 ghost use mathlib.Core.Path.{_≡_};
 ghost use Rattle.script_call.specs.Calls.{ends as Calls·ends, closed as Calls·closed, spacedTicket, spacedList, readDeliver, readClaim, readRelease, readApply, readSnapshot, readWait, readResume, readCompletion, readLink, readReport, readStats, readHeads, readSheet, callNamed, laterNamed, call};
+ghost use Rattle.script_call.specs.Dispatch.{viewNamed, bareNamed};
 ghost use Rattle.text.specs.Places.{here, Reads};
-use call_value::spaced::spaced_anchor;
-use call_value::spaced::spaced_hash;
-use call_value::spaced::spaced_number;
-use call_value::spaced::spaced_skip;
-use call_value::spaced::spaced_slot;
+use crate::anchor::spaced_anchor;
+use crate::anchor::spaced_slot;
+use crate::skip::spaced_skip;
+use crate::spaced::past_byte;
+use crate::spaced::spaced_hash;
+use crate::spaced::spaced_number;
 use head_anchor::read_hub::PreparedBal;
 use head_call::head_lifecycle::Call;
 use head_count::head_lifecycle::Epoch;
@@ -18,8 +20,11 @@ use line_reader::word_from;
 use text::place::Place;
 use text::word::same;
 use text_place::at_end;
-use text_place::expect;
 use text_place::past;
+
+mod anchor;
+mod skip;
+mod spaced;
 
 // What a line asks for. The sheet is no call on the driver: it is written into the caller's buffer.
 pub enum LineCall {
@@ -44,7 +49,7 @@ pub struct ListFrom {
 pub(crate) fn ends(line: &[u8], from: Place) -> bool
     ensures { λ r. ⌜ r ≡ Calls·ends (here (now (line .entry)) from) ⌝ }
 {
-    at_end(line, expect(line, from, b")"))
+    at_end(line, past_byte(line, from, b')'))
 }
 
 // The call, where the line ends with it.
@@ -52,10 +57,9 @@ pub(crate) fn closed(line: &[u8], from: Place, call: Call) -> LineCall
     ensures { λ r. ⌜ r ≡ Calls·closed (here (now (line .entry)) from) call ⌝ }
 {
     if ends(line, from) {
-        LineCall::Make(call)
-    } else {
-        LineCall::NoCall
+        return LineCall::Make(call);
     }
+    LineCall::NoCall
 }
 
 // ` A SEQ`: a delivery, as a claim and an apply name it.
@@ -244,22 +248,15 @@ pub(crate) fn read_sheet(line: &[u8], from: Place) -> LineCall
     ensures { λ r. ⌜ r ≡ readSheet (here (now (line .entry)) from) ⌝ }
 {
     if ends(line, from) {
-        LineCall::Sheet
-    } else {
-        LineCall::NoCall
+        return LineCall::Sheet;
     }
+    LineCall::NoCall
 }
 
-// The calls that come last in document 01.
-pub(crate) fn by_later_word(line: &[u8], word: &[u8], from: Place) -> LineCall
-    ensures { λ r. ⌜ r ≡ laterNamed (now (word .entry)) (here (now (line .entry)) from) ⌝ }
+// The calls of a keyword alone.
+pub(crate) fn by_bare_word(line: &[u8], word: &[u8], from: Place) -> LineCall
+    ensures { λ r. ⌜ r ≡ bareNamed (now (word .entry)) (here (now (line .entry)) from) ⌝ }
 {
-    if same(word, b"completion") {
-        return read_completion(line, from);
-    }
-    if same(word, b"link") {
-        return read_link(line, from);
-    }
     if same(word, b"report") {
         return read_report(line, from);
     }
@@ -275,7 +272,36 @@ pub(crate) fn by_later_word(line: &[u8], word: &[u8], from: Place) -> LineCall
     LineCall::NoCall
 }
 
-// The call of a keyword, with the place after it.
+// The calls that come last in document 01: of one anchor, of a link, and those of a keyword alone.
+pub(crate) fn by_later_word(line: &[u8], word: &[u8], from: Place) -> LineCall
+    ensures { λ r. ⌜ r ≡ laterNamed (now (word .entry)) (here (now (line .entry)) from) ⌝ }
+{
+    if same(word, b"completion") {
+        return read_completion(line, from);
+    }
+    if same(word, b"link") {
+        return read_link(line, from);
+    }
+    by_bare_word(line, word, from)
+}
+
+// The calls that ask for a view, now or in turn, and those after them.
+pub(crate) fn by_view_word(line: &[u8], word: &[u8], from: Place) -> LineCall
+    ensures { λ r. ⌜ r ≡ viewNamed (now (word .entry)) (here (now (line .entry)) from) ⌝ }
+{
+    if same(word, b"snapshot") {
+        return read_snapshot(line, from);
+    }
+    if same(word, b"wait") {
+        return read_wait(line, from);
+    }
+    if same(word, b"resume") {
+        return read_resume(line, from);
+    }
+    by_later_word(line, word, from)
+}
+
+// The call of a keyword, with the place after it: in four functions, in document 01's order.
 pub(crate) fn by_word(line: &[u8], word: &[u8], from: Place) -> LineCall
     ensures { λ r. ⌜ r ≡ callNamed (now (word .entry)) (here (now (line .entry)) from) ⌝ }
 {
@@ -291,29 +317,17 @@ pub(crate) fn by_word(line: &[u8], word: &[u8], from: Place) -> LineCall
     if same(word, b"apply") {
         return read_apply(line, from);
     }
-    if same(word, b"snapshot") {
-        return read_snapshot(line, from);
-    }
-    if same(word, b"wait") {
-        return read_wait(line, from);
-    }
-    if same(word, b"resume") {
-        return read_resume(line, from);
-    }
-    by_later_word(line, word, from)
+    by_view_word(line, word, from)
 }
 
-// The call of a line, which comes without its line feed. No call is longer than 297 bytes; 512 is document 01's limit for a line.
+// The call of a line, which comes without its line feed. An empty line has no bracket, and so is no call. No call is longer than 297 bytes; 512 is document 01's limit for a line.
 pub fn read_call(line: &[u8]) -> LineCall
     ensures { λ r. ⌜ r ≡ call (now (line .entry)) ⌝ }
 {
-    if line.len() == 0 {
-        return LineCall::NoCall;
-    }
     if line.len() > 512 {
         return LineCall::NoCall;
     }
-    let from = expect(line, Place::At(0), b"(");
+    let from = past_byte(line, Place::At(0), b'(');
     let word = word_from(line, from);
     by_word(line, word, past(line, from, word.len()))
 }

@@ -1,5 +1,5 @@
 use borrow.Author.Needs.{needs}
-use Rattle.script_call.proofs.Named.{completion-named, link-named, report-named, stats-named, heads-named, sheet-named, none-named}
+use Rattle.script_call.proofs.Named.{completion-named, link-named, bare-is}
 use Rattle.script_call.proofs.by_later_word.Statement.{statement}
 use Rattle.script_call.proofs.by_later_word.Tie as tie
 
@@ -9,12 +9,5 @@ by-later-word-spec = tie.close (tie.spec
     (λ c. search completion-named)
     (search needs) (λ c κs. tt) (λ c κs. tt)
     (λ c. search link-named)
-    (search needs) (λ c κs. tt) (λ c κs. tt)
-    (λ c. search report-named)
-    (search needs) (λ c κs. tt) (λ c κs. tt)
-    (λ c. search stats-named)
-    (search needs) (λ c κs. tt) (λ c κs. tt)
-    (λ c. search heads-named)
-    (search needs) (λ c κs. tt) (λ c κs. tt)
-    (λ c. search sheet-named)
-    (λ c. search none-named))
+    (λ c κs. tt)
+    (λ c. search bare-is))

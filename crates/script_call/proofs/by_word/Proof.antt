@@ -1,5 +1,5 @@
 use borrow.Author.Needs.{needs}
-use Rattle.script_call.proofs.Named.{deliver-named, claim-named, release-named, apply-named, snapshot-named, wait-named, resume-named, later-is}
+use Rattle.script_call.proofs.Named.{deliver-named, claim-named, release-named, apply-named, view-is}
 use Rattle.script_call.proofs.by_word.Statement.{statement}
 use Rattle.script_call.proofs.by_word.Tie as tie
 
@@ -13,11 +13,5 @@ by-word-spec = tie.close (tie.spec
     (λ c. search release-named)
     (search needs) (λ c κs. tt) (λ c κs. tt)
     (λ c. search apply-named)
-    (search needs) (λ c κs. tt) (λ c κs. tt)
-    (λ c. search snapshot-named)
-    (search needs) (λ c κs. tt) (λ c κs. tt)
-    (λ c. search wait-named)
-    (search needs) (λ c κs. tt) (λ c κs. tt)
-    (λ c. search resume-named)
     (λ c κs. tt)
-    (λ c. search later-is))
+    (λ c. search view-is))
