@@ -3,7 +3,7 @@ ghost use mathlib.Core.Path.{_≡_};
 ghost use Rattle.head_anchor.specs.Lists.{outcome};
 ghost use Rattle.head_driver.specs.Answers.{outcomeSaid, said};
 ghost use Rattle.head_driver.specs.New.{new};
-ghost use Rattle.head_driver.specs.Parts.{endingWith, replyOf, wakeCurrent, withLife};
+ghost use Rattle.head_driver.specs.Parts.{endingWith, replyOf, wakeCurrent};
 use head_anchor::read_hub::Link;
 use head_anchor::storage_memo::AnchorSlot;
 use head_attempt::head_lifecycle::HeadCompletion;
@@ -92,13 +92,6 @@ pub fn answered(d: Driver, answer: Answer) -> Reply
     ensures { λ r. ⌜ r ≡ replyOf d answer ⌝ }
 {
     Reply { driver: d, answer }
-}
-
-pub fn with_life(mut d: Driver, life: HeadLifecycle) -> Driver
-    ensures { λ r. ⌜ r ≡ withLife d life ⌝ }
-{
-    d.life = life;
-    d
 }
 
 // Only a preparing head has waiters parked on it.
