@@ -8,16 +8,16 @@ use Rattle.head_anchor.specs.Anchors.{holds}
 use Rattle.head_attempt.specs.Attempts.{minted, settled}
 use Rattle.head_current.specs.Heads.{anchorOf, delivery}
 use Rattle.head_ready.specs.Generations.{slotAnchor}
-use Rattle.head_anchor.specs.declared.storage_memo.AnchorSlot.{AnchorSlot}
-use Rattle.head_anchor.specs.declared.storage_memo.ReadAnchor.{ReadAnchor}
-use Rattle.head_count.specs.declared.head_lifecycle.Epoch.{Epoch}
-use Rattle.head_attempt.specs.declared.head_lifecycle.HeadCompletion.{HeadCompletion}
-use Rattle.head_attempt.specs.declared.head_lifecycle.WaiterSlot.{WaiterSlot}
-use Rattle.head_current.specs.declared.head_lifecycle.CurrentHead.{CurrentHead}
-use Rattle.head_current.specs.declared.head_lifecycle.HeadDelivery.{HeadDelivery}
-use Rattle.head_current.specs.declared.head_lifecycle.UnsettledHead.{UnsettledHead}
-use Rattle.head_driver.specs.declared.head_lifecycle.Driver.{Driver}
-use Rattle.head_ready.specs.declared.delta_snapshot.GenerationSlot.{GenerationSlot}
+use Rattle.head_anchor.specs.declared.AnchorSlot.{AnchorSlot}
+use Rattle.head_anchor.specs.declared.ReadAnchor.{ReadAnchor}
+use Rattle.head_count.specs.declared.Epoch.{Epoch}
+use Rattle.head_attempt.specs.declared.HeadCompletion.{HeadCompletion}
+use Rattle.head_attempt.specs.declared.WaiterSlot.{WaiterSlot}
+use Rattle.head_current.specs.declared.CurrentHead.{CurrentHead}
+use Rattle.head_current.specs.declared.HeadDelivery.{HeadDelivery}
+use Rattle.head_current.specs.declared.UnsettledHead.{UnsettledHead}
+use Rattle.head_driver.specs.declared.Driver.{Driver}
+use Rattle.head_ready.specs.declared.GenerationSlot.{GenerationSlot}
 use Rattle.alike.proofs.Alike.{Alike, SameHead, SameSuperseded, same-delivery, same-report}
 use Rattle.alike.proofs.Masks.{mask-fits, mask-twice}
 use Rattle.alike.proofs.Shown.{alike-canon, shown-waiters}

@@ -10,16 +10,16 @@ use Rattle.head_deliver.specs.Delivered.{newHead}
 use Rattle.head_ready.specs.Generations.{slotAnchor}
 use Rattle.head_step.specs.Dispatch.{dispatch}
 use Rattle.head_snapshot.specs.Views.{spareReason, spareView}
-use Rattle.head_anchor.specs.declared.storage_memo.AnchorSlot.{AnchorSlot}
-use Rattle.head_anchor.specs.declared.storage_memo.ReadAnchor.{ReadAnchor}
-use Rattle.head_count.specs.declared.head_lifecycle.Epoch.{Epoch}
-use Rattle.head_current.specs.declared.head_lifecycle.CurrentHead.{CurrentHead}
-use Rattle.head_driver.specs.declared.head_lifecycle.Answer.{Answer}
-use Rattle.head_driver.specs.declared.head_lifecycle.Driver.{Driver}
-use Rattle.head_ready.specs.declared.delta_snapshot.GenerationSlot.{GenerationSlot}
-use Rattle.head_ready.specs.declared.head_lifecycle.HeadReadiness.{HeadReadiness}
-use Rattle.head_ready.specs.declared.head_lifecycle.Source.{Source}
-use Rattle.head_call.specs.declared.head_lifecycle.Call.{Call}
+use Rattle.head_anchor.specs.declared.AnchorSlot.{AnchorSlot}
+use Rattle.head_anchor.specs.declared.ReadAnchor.{ReadAnchor}
+use Rattle.head_count.specs.declared.Epoch.{Epoch}
+use Rattle.head_current.specs.declared.CurrentHead.{CurrentHead}
+use Rattle.head_driver.specs.declared.Answer.{Answer}
+use Rattle.head_driver.specs.declared.Driver.{Driver}
+use Rattle.head_ready.specs.declared.GenerationSlot.{GenerationSlot}
+use Rattle.head_ready.specs.declared.HeadReadiness.{HeadReadiness}
+use Rattle.head_ready.specs.declared.Source.{Source}
+use Rattle.head_call.specs.declared.Call.{Call}
 use Rattle.alike.proofs.Alike.{SameSuperseded, Telling}
 use Rattle.alike.proofs.Brought.{Colded, cold-step, cold-writable, coldCall, deliver-new, delivered-new, delivering, outside, outside-first, outside-fits, outside-second, zeros-fit}
 use Rattle.alike.proofs.Poses.{Pose, Unsettled, absent-of, by-pose, currentAnchor, generation-fits, installedAnchor, not-installed, pose, previous-elsewhere, previous-empty, previousAnchor, settled-not-at, settled-pose}

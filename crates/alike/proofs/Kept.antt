@@ -8,8 +8,8 @@ use Rattle.head_reads.specs.Reports.{lastReport}
 use Rattle.head_life.specs.State.{noHead}
 use Rattle.head_driver.specs.New.{new}
 use Rattle.head_step.specs.Steps.{step}
-use Rattle.head_driver.specs.declared.head_lifecycle.Driver.{Driver}
-use Rattle.head_call.specs.declared.head_lifecycle.Call.{Call}
+use Rattle.head_driver.specs.declared.Driver.{Driver}
+use Rattle.head_call.specs.declared.Call.{Call}
 use Rattle.alike.proofs.KeptOrder.{ordered-step}
 use Rattle.alike.proofs.KeptParks.{parks-step}
 use Rattle.alike.proofs.KeptRanges.{fits-step}

@@ -13,14 +13,14 @@ use Rattle.head_release.specs.Released.{released}
 use Rattle.head_deliver.specs.Delivered.{delivered}
 use Rattle.head_life.specs.State.{counted}
 use Rattle.head_step.specs.Steps.{step}
-use Rattle.head_anchor.specs.declared.storage_memo.ReadAnchor.{ReadAnchor}
-use Rattle.head_attempt.specs.declared.head_lifecycle.HeadCompletion.{HeadCompletion}
-use Rattle.head_attempt.specs.declared.head_lifecycle.Waiter.{Waiter}
-use Rattle.head_attempt.specs.declared.head_lifecycle.WaiterSlot.{WaiterSlot}
-use Rattle.head_current.specs.declared.head_lifecycle.CurrentHead.{CurrentHead}
-use Rattle.head_driver.specs.declared.head_lifecycle.Driver.{Driver}
-use Rattle.head_life.specs.declared.head_lifecycle.HeadLifecycle.{HeadLifecycle}
-use Rattle.head_call.specs.declared.head_lifecycle.Call.{Call}
+use Rattle.head_anchor.specs.declared.ReadAnchor.{ReadAnchor}
+use Rattle.head_attempt.specs.declared.HeadCompletion.{HeadCompletion}
+use Rattle.head_attempt.specs.declared.Waiter.{Waiter}
+use Rattle.head_attempt.specs.declared.WaiterSlot.{WaiterSlot}
+use Rattle.head_current.specs.declared.CurrentHead.{CurrentHead}
+use Rattle.head_driver.specs.declared.Driver.{Driver}
+use Rattle.head_life.specs.declared.HeadLifecycle.{HeadLifecycle}
+use Rattle.head_call.specs.declared.Call.{Call}
 use Rattle.alike.proofs.Moves.{Move, step-move}
 use Rattle.alike.proofs.Tests.{true-false}
 use Rattle.alike.proofs.Waking.{Ends, ending-none, set-none}

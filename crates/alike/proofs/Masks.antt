@@ -2,8 +2,8 @@
 use mathlib.Core.Bool.{Bool, false}
 use mathlib.Core.Path.{_≡_, refl, sym, ap, _∙_}
 use Rattle.head_anchor.specs.Anchors.{holds, sameAnchor}
-use Rattle.head_anchor.specs.declared.storage_memo.AnchorSlot.{AnchorSlot}
-use Rattle.head_anchor.specs.declared.storage_memo.ReadAnchor.{ReadAnchor}
+use Rattle.head_anchor.specs.declared.AnchorSlot.{AnchorSlot}
+use Rattle.head_anchor.specs.declared.ReadAnchor.{ReadAnchor}
 use Rattle.alike.proofs.Tests.{at-same, by-if, by-test, holds-same, is-false, nothing-at, same-anchor, same-holds, true-false}
 use Rattle.alike.specs.Canon.{maskBy}
 use Rattle.head_anchor.specs.Ranges.{SlotFits}

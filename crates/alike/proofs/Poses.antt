@@ -13,21 +13,21 @@ use Rattle.head_deliver.specs.Delivered.{deliveryOf}
 use Rattle.head_ready.specs.Generations.{slotAnchor}
 use Rattle.head_ready.specs.Refusals.{refused-13, refused-14}
 use Rattle.hash.specs.declared.Hash.{Hash}
-use Rattle.head_anchor.specs.declared.storage_memo.AnchorSlot.{AnchorSlot}
-use Rattle.head_anchor.specs.declared.storage_memo.BlockHash.{BlockHash}
-use Rattle.head_anchor.specs.declared.storage_memo.ReadAnchor.{ReadAnchor}
-use Rattle.head_attempt.specs.declared.head_lifecycle.ClaimAttempt.{ClaimAttempt}
-use Rattle.head_count.specs.declared.head_lifecycle.Epoch.{Epoch}
-use Rattle.head_current.specs.declared.head_lifecycle.CurrentHead.{CurrentHead}
-use Rattle.head_current.specs.declared.head_lifecycle.DeliverySlot.{DeliverySlot}
-use Rattle.head_current.specs.declared.head_lifecycle.HeadDelivery.{HeadDelivery}
-use Rattle.head_current.specs.declared.head_lifecycle.LastReport.{LastReport}
-use Rattle.head_current.specs.declared.head_lifecycle.UnsettledHead.{UnsettledHead}
-use Rattle.head_driver.specs.declared.head_lifecycle.Answer.{Answer}
-use Rattle.head_driver.specs.declared.head_lifecycle.Driver.{Driver}
-use Rattle.head_ready.specs.declared.delta_snapshot.Generation.{Generation}
-use Rattle.head_ready.specs.declared.delta_snapshot.GenerationSlot.{GenerationSlot}
-use Rattle.head_life.specs.declared.head_lifecycle.HeadLifecycle.{HeadLifecycle}
+use Rattle.head_anchor.specs.declared.AnchorSlot.{AnchorSlot}
+use Rattle.head_anchor.specs.declared.BlockHash.{BlockHash}
+use Rattle.head_anchor.specs.declared.ReadAnchor.{ReadAnchor}
+use Rattle.head_attempt.specs.declared.ClaimAttempt.{ClaimAttempt}
+use Rattle.head_count.specs.declared.Epoch.{Epoch}
+use Rattle.head_current.specs.declared.CurrentHead.{CurrentHead}
+use Rattle.head_current.specs.declared.DeliverySlot.{DeliverySlot}
+use Rattle.head_current.specs.declared.HeadDelivery.{HeadDelivery}
+use Rattle.head_current.specs.declared.LastReport.{LastReport}
+use Rattle.head_current.specs.declared.UnsettledHead.{UnsettledHead}
+use Rattle.head_driver.specs.declared.Answer.{Answer}
+use Rattle.head_driver.specs.declared.Driver.{Driver}
+use Rattle.head_ready.specs.declared.Generation.{Generation}
+use Rattle.head_ready.specs.declared.GenerationSlot.{GenerationSlot}
+use Rattle.head_life.specs.declared.HeadLifecycle.{HeadLifecycle}
 use Rattle.alike.proofs.Alike.{SameHead, unsettledAt}
 use Rattle.alike.proofs.KeptRanges.{held-fits}
 use Rattle.alike.proofs.Tests.{at-same, is-false, nothing-at, same-anchor}

@@ -20,21 +20,21 @@ use Rattle.head_ready.specs.Generations.{slotAnchor}
 use Rattle.head_completion.specs.Completion.{completion}
 use Rattle.head_snapshot.specs.Views.{currentView, generationView, provisionalView, spareView, view, viewOf}
 use Rattle.hash.specs.declared.Hash.{Hash}
-use Rattle.head_anchor.specs.declared.storage_memo.AnchorSlot.{AnchorSlot}
-use Rattle.head_anchor.specs.declared.storage_memo.ReadAnchor.{ReadAnchor}
-use Rattle.head_count.specs.declared.head_lifecycle.Seq.{Seq}
-use Rattle.head_current.specs.declared.head_lifecycle.CurrentHead.{CurrentHead}
-use Rattle.head_current.specs.declared.head_lifecycle.DeliverySlot.{DeliverySlot}
-use Rattle.head_current.specs.declared.head_lifecycle.HeadDelivery.{HeadDelivery}
-use Rattle.head_driver.specs.declared.head_lifecycle.Answer.{Answer}
-use Rattle.head_driver.specs.declared.head_lifecycle.Driver.{Driver}
-use Rattle.head_ready.specs.declared.delta_snapshot.Generation.{Generation}
-use Rattle.head_ready.specs.declared.delta_snapshot.GenerationSlot.{GenerationSlot}
-use Rattle.head_ready.specs.declared.head_lifecycle.HeadCold.{HeadCold}
-use Rattle.head_life.specs.declared.head_lifecycle.HeadLifecycle.{HeadLifecycle}
-use Rattle.head_ready.specs.declared.head_lifecycle.HeadReadiness.{HeadReadiness}
-use Rattle.head_ready.specs.declared.head_lifecycle.HeadView.{HeadView}
-use Rattle.head_ready.specs.declared.head_lifecycle.Source.{Source}
+use Rattle.head_anchor.specs.declared.AnchorSlot.{AnchorSlot}
+use Rattle.head_anchor.specs.declared.ReadAnchor.{ReadAnchor}
+use Rattle.head_count.specs.declared.Seq.{Seq}
+use Rattle.head_current.specs.declared.CurrentHead.{CurrentHead}
+use Rattle.head_current.specs.declared.DeliverySlot.{DeliverySlot}
+use Rattle.head_current.specs.declared.HeadDelivery.{HeadDelivery}
+use Rattle.head_driver.specs.declared.Answer.{Answer}
+use Rattle.head_driver.specs.declared.Driver.{Driver}
+use Rattle.head_ready.specs.declared.Generation.{Generation}
+use Rattle.head_ready.specs.declared.GenerationSlot.{GenerationSlot}
+use Rattle.head_ready.specs.declared.HeadCold.{HeadCold}
+use Rattle.head_life.specs.declared.HeadLifecycle.{HeadLifecycle}
+use Rattle.head_ready.specs.declared.HeadReadiness.{HeadReadiness}
+use Rattle.head_ready.specs.declared.HeadView.{HeadView}
+use Rattle.head_ready.specs.declared.Source.{Source}
 use Rattle.alike.proofs.Alike.{unsettledAt}
 use Rattle.alike.proofs.Poses.{Unsettled, claimAnswer, currentAnchor, installedAnchor, not-installed, pose, previousAnchor, provisionalOf}
 use Rattle.alike.proofs.Tests.{anchor-same, at-same, by-test, eqb-same, nothing-at, same-holds}

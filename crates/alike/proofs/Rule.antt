@@ -1,7 +1,7 @@
 -- Drivers that answer alike are alike, each part told by a probe, so they show the same. And the rule.
 use mathlib.Core.Path.{subst}
 use Rattle.head_driver.specs.New.{new}
-use Rattle.head_driver.specs.declared.head_lifecycle.Driver.{Driver}
+use Rattle.head_driver.specs.declared.Driver.{Driver}
 use Rattle.alike.proofs.Alike.{Alike, driverOf}
 use Rattle.alike.proofs.DeepProbes.{probe-epoch, probe-previous, probe-superseded}
 use Rattle.alike.proofs.Kept.{holds-of-new, kept-after}

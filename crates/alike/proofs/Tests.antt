@@ -10,9 +10,9 @@ use Rattle.hash.specs.Logic.{both, if}
 use Rattle.head_anchor.specs.Anchors.{holds, sameAnchor, sameBlockHash}
 use Rattle.head_count.specs.Counters.{up}
 use Rattle.hash.specs.declared.Hash.{Hash}
-use Rattle.head_anchor.specs.declared.storage_memo.AnchorSlot.{AnchorSlot}
-use Rattle.head_anchor.specs.declared.storage_memo.BlockHash.{BlockHash}
-use Rattle.head_anchor.specs.declared.storage_memo.ReadAnchor.{ReadAnchor}
+use Rattle.head_anchor.specs.declared.AnchorSlot.{AnchorSlot}
+use Rattle.head_anchor.specs.declared.BlockHash.{BlockHash}
+use Rattle.head_anchor.specs.declared.ReadAnchor.{ReadAnchor}
 use Rattle.hash.specs.Ranges.{Fits}
 
 pub true-false : {X : Type 0} {b : Bool} → b ≡ true → b ≡ false → X

@@ -4,9 +4,9 @@ use mathlib.Core.Path.{_≡_, sym, ap}
 use Rattle.head_step.proofs.Asked.{asked}
 use Rattle.head_step.specs.Dispatch.{dispatch}
 use Rattle.head_step.specs.Steps.{step}
-use Rattle.head_driver.specs.declared.head_lifecycle.Answer.{Answer}
-use Rattle.head_driver.specs.declared.head_lifecycle.Driver.{Driver}
-use Rattle.head_call.specs.declared.head_lifecycle.Call.{Call}
+use Rattle.head_driver.specs.declared.Answer.{Answer}
+use Rattle.head_driver.specs.declared.Driver.{Driver}
+use Rattle.head_call.specs.declared.Call.{Call}
 use Rattle.alike.proofs.Kept.{kept}
 use Rattle.alike.specs.Invariant.{Invariant}
 use Rattle.head_call.specs.Ranges.{Writable}

@@ -30,25 +30,25 @@ use Rattle.head_step.specs.Dispatch.{dispatch}
 use Rattle.head_snapshot.specs.Views.{generationView, spareView, view, viewOf}
 use Rattle.head_waits.specs.Calls.{resume}
 use Rattle.hash.specs.declared.Hash.{Hash}
-use Rattle.head_anchor.specs.declared.storage_memo.AnchorSlot.{AnchorSlot}
-use Rattle.head_anchor.specs.declared.storage_memo.ReadAnchor.{ReadAnchor}
-use Rattle.head_attempt.specs.declared.head_lifecycle.HeadCompletion.{HeadCompletion}
-use Rattle.head_count.specs.declared.head_lifecycle.Seq.{Seq}
-use Rattle.head_attempt.specs.declared.head_lifecycle.Waiter.{Waiter}
-use Rattle.head_attempt.specs.declared.head_lifecycle.WaiterSlot.{WaiterSlot}
-use Rattle.head_current.specs.declared.head_lifecycle.CurrentHead.{CurrentHead}
-use Rattle.head_current.specs.declared.head_lifecycle.DeliverySlot.{DeliverySlot}
+use Rattle.head_anchor.specs.declared.AnchorSlot.{AnchorSlot}
+use Rattle.head_anchor.specs.declared.ReadAnchor.{ReadAnchor}
+use Rattle.head_attempt.specs.declared.HeadCompletion.{HeadCompletion}
+use Rattle.head_count.specs.declared.Seq.{Seq}
+use Rattle.head_attempt.specs.declared.Waiter.{Waiter}
+use Rattle.head_attempt.specs.declared.WaiterSlot.{WaiterSlot}
+use Rattle.head_current.specs.declared.CurrentHead.{CurrentHead}
+use Rattle.head_current.specs.declared.DeliverySlot.{DeliverySlot}
 use Rattle.head_deliver.specs.declared.head_lifecycle.Redelivery.{Redelivery}
-use Rattle.head_current.specs.declared.head_lifecycle.UnsettledHead.{UnsettledHead}
-use Rattle.head_driver.specs.declared.head_lifecycle.Answer.{Answer}
-use Rattle.head_driver.specs.declared.head_lifecycle.Driver.{Driver}
-use Rattle.head_ready.specs.declared.delta_snapshot.GenerationSlot.{GenerationSlot}
-use Rattle.head_ready.specs.declared.head_lifecycle.HeadCold.{HeadCold}
-use Rattle.head_life.specs.declared.head_lifecycle.HeadLifecycle.{HeadLifecycle}
-use Rattle.head_ready.specs.declared.head_lifecycle.HeadReadiness.{HeadReadiness}
-use Rattle.head_ready.specs.declared.head_lifecycle.HeadView.{HeadView}
-use Rattle.head_ready.specs.declared.head_lifecycle.Source.{Source}
-use Rattle.head_call.specs.declared.head_lifecycle.Call.{Call}
+use Rattle.head_current.specs.declared.UnsettledHead.{UnsettledHead}
+use Rattle.head_driver.specs.declared.Answer.{Answer}
+use Rattle.head_driver.specs.declared.Driver.{Driver}
+use Rattle.head_ready.specs.declared.GenerationSlot.{GenerationSlot}
+use Rattle.head_ready.specs.declared.HeadCold.{HeadCold}
+use Rattle.head_life.specs.declared.HeadLifecycle.{HeadLifecycle}
+use Rattle.head_ready.specs.declared.HeadReadiness.{HeadReadiness}
+use Rattle.head_ready.specs.declared.HeadView.{HeadView}
+use Rattle.head_ready.specs.declared.Source.{Source}
+use Rattle.head_call.specs.declared.Call.{Call}
 use Rattle.alike.proofs.Alike.{unsettledAt}
 use Rattle.alike.proofs.Brought.{cold-step, delivering, outside, outside-first, outside-fits, release-hit, zeros, zeros-fit}
 use Rattle.alike.proofs.DeepProbes.{twin-cold, twin-colded}

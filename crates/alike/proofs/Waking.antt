@@ -7,11 +7,11 @@ use Rattle.head_attempt.specs.Waiters.{slotOf, wake, woken}
 use Rattle.head_driver.specs.Parts.{wakeCurrent}
 use Rattle.head_driver.specs.New.{free}
 use Rattle.head_waits.specs.Parts.{waiterAt}
-use Rattle.head_anchor.specs.declared.storage_memo.ReadAnchor.{ReadAnchor}
-use Rattle.head_attempt.specs.declared.head_lifecycle.HeadCompletion.{HeadCompletion}
-use Rattle.head_attempt.specs.declared.head_lifecycle.Waiter.{Waiter}
-use Rattle.head_attempt.specs.declared.head_lifecycle.WaiterSlot.{WaiterSlot}
-use Rattle.head_current.specs.declared.head_lifecycle.CurrentHead.{CurrentHead}
+use Rattle.head_anchor.specs.declared.ReadAnchor.{ReadAnchor}
+use Rattle.head_attempt.specs.declared.HeadCompletion.{HeadCompletion}
+use Rattle.head_attempt.specs.declared.Waiter.{Waiter}
+use Rattle.head_attempt.specs.declared.WaiterSlot.{WaiterSlot}
+use Rattle.head_current.specs.declared.CurrentHead.{CurrentHead}
 use Rattle.alike.specs.Invariant.{NoneParked, NotParked, Parks}
 use Rattle.head_anchor.specs.Ranges.{AnchorFits}
 use Rattle.head_current.specs.Ranges.{HeadFits}

@@ -12,23 +12,23 @@ use Rattle.head_count.specs.Counters.{seqOf}
 use Rattle.head_current.specs.Heads.{delivery}
 use Rattle.head_reads.specs.Reports.{lastReport}
 use Rattle.head_ready.specs.Generations.{settledReadiness, slotAnchor}
-use Rattle.head_anchor.specs.declared.read_hub.CarryOutcome.{CarryOutcome}
-use Rattle.head_anchor.specs.declared.storage_memo.AnchorSlot.{AnchorSlot}
-use Rattle.head_attempt.specs.declared.head_lifecycle.HeadCompletion.{HeadCompletion}
-use Rattle.head_attempt.specs.declared.head_lifecycle.Waiter.{Waiter}
-use Rattle.head_attempt.specs.declared.head_lifecycle.WaiterSlot.{WaiterSlot}
-use Rattle.head_current.specs.declared.head_lifecycle.CurrentHead.{CurrentHead}
-use Rattle.head_current.specs.declared.head_lifecycle.DeliverySlot.{DeliverySlot}
-use Rattle.head_current.specs.declared.head_lifecycle.HeadDelivery.{HeadDelivery}
-use Rattle.head_current.specs.declared.head_lifecycle.LastReport.{LastReport}
-use Rattle.head_current.specs.declared.head_lifecycle.SettledHead.{SettledHead}
-use Rattle.head_current.specs.declared.head_lifecycle.UnsettledHead.{UnsettledHead}
-use Rattle.head_driver.specs.declared.head_lifecycle.Driver.{Driver}
-use Rattle.head_ready.specs.declared.delta_snapshot.Generation.{Generation}
-use Rattle.head_ready.specs.declared.delta_snapshot.GenerationSlot.{GenerationSlot}
-use Rattle.head_ready.specs.declared.head_lifecycle.HeadCold.{HeadCold}
-use Rattle.head_life.specs.declared.head_lifecycle.HeadLifecycle.{HeadLifecycle}
-use Rattle.head_ready.specs.declared.head_lifecycle.HeadReadiness.{HeadReadiness}
+use Rattle.head_anchor.specs.declared.CarryOutcome.{CarryOutcome}
+use Rattle.head_anchor.specs.declared.AnchorSlot.{AnchorSlot}
+use Rattle.head_attempt.specs.declared.HeadCompletion.{HeadCompletion}
+use Rattle.head_attempt.specs.declared.Waiter.{Waiter}
+use Rattle.head_attempt.specs.declared.WaiterSlot.{WaiterSlot}
+use Rattle.head_current.specs.declared.CurrentHead.{CurrentHead}
+use Rattle.head_current.specs.declared.DeliverySlot.{DeliverySlot}
+use Rattle.head_current.specs.declared.HeadDelivery.{HeadDelivery}
+use Rattle.head_current.specs.declared.LastReport.{LastReport}
+use Rattle.head_current.specs.declared.SettledHead.{SettledHead}
+use Rattle.head_current.specs.declared.UnsettledHead.{UnsettledHead}
+use Rattle.head_driver.specs.declared.Driver.{Driver}
+use Rattle.head_ready.specs.declared.Generation.{Generation}
+use Rattle.head_ready.specs.declared.GenerationSlot.{GenerationSlot}
+use Rattle.head_ready.specs.declared.HeadCold.{HeadCold}
+use Rattle.head_life.specs.declared.HeadLifecycle.{HeadLifecycle}
+use Rattle.head_ready.specs.declared.HeadReadiness.{HeadReadiness}
 use Rattle.alike.specs.Ranges.{DriverFits}
 
 -- a fact of a current head, by what it is

@@ -2,10 +2,10 @@
 use mathlib.Core.List.{List, [], _∷_}
 use mathlib.Core.Path.{_≡_}
 use lib.ListN.{length}
-use Rattle.head_attempt.specs.declared.head_lifecycle.Waiter.{Waiter}
-use Rattle.head_attempt.specs.declared.head_lifecycle.WaiterSlot.{WaiterSlot}
-use Rattle.head_driver.specs.declared.head_lifecycle.Driver.{Driver}
-use Rattle.head_life.specs.declared.head_lifecycle.HeadLifecycle.{HeadLifecycle}
+use Rattle.head_attempt.specs.declared.Waiter.{Waiter}
+use Rattle.head_attempt.specs.declared.WaiterSlot.{WaiterSlot}
+use Rattle.head_driver.specs.declared.Driver.{Driver}
+use Rattle.head_life.specs.declared.HeadLifecycle.{HeadLifecycle}
 use Rattle.hash.specs.Ranges.{Fits}
 use Rattle.head_anchor.specs.Ranges.{AnchorFits, SlotFits}
 use Rattle.head_current.specs.Ranges.{HeadFits}

@@ -2,9 +2,9 @@
 use mathlib.Core.List.{List, [], _∷_}
 use Rattle.head_call.specs.Ranges.{Writable}
 use Rattle.head_step.specs.Steps.{step}
-use Rattle.head_driver.specs.declared.head_lifecycle.Answer.{Answer}
-use Rattle.head_driver.specs.declared.head_lifecycle.Driver.{Driver}
-use Rattle.head_call.specs.declared.head_lifecycle.Call.{Call}
+use Rattle.head_driver.specs.declared.Answer.{Answer}
+use Rattle.head_driver.specs.declared.Driver.{Driver}
+use Rattle.head_call.specs.declared.Call.{Call}
 
 -- the driver after them
 unfoldable pub after : Driver → List Call → Driver

@@ -5,8 +5,8 @@ use mathlib.Core.Logic.{_↔_}
 use mathlib.Core.Path.{_≡_}
 use Rattle.head_driver.specs.New.{new}
 use Rattle.head_step.specs.Steps.{step}
-use Rattle.head_driver.specs.declared.head_lifecycle.Driver.{Driver}
-use Rattle.head_call.specs.declared.head_lifecycle.Call.{Call}
+use Rattle.head_driver.specs.declared.Driver.{Driver}
+use Rattle.head_call.specs.declared.Call.{Call}
 use Rattle.alike.specs.Canon.{canon}
 use Rattle.alike.specs.Invariant.{Invariant}
 use Rattle.alike.specs.Runs.{AllWritable, after, answers}

@@ -23,16 +23,16 @@ use Rattle.text.specs.Ascii.{ascii}
 use Rattle.text.specs.Rests.{Took, after, at, step}
 use Rattle.text.specs.Same.{sameText}
 use Rattle.text.specs.Words.{inWord, run}
-use Rattle.head_anchor.specs.declared.read_hub.CarryOutcome.{CarryOutcome}
-use Rattle.head_anchor.specs.declared.read_hub.Link.{Link}
-use Rattle.head_anchor.specs.declared.storage_memo.AnchorSlot.{AnchorSlot}
-use Rattle.head_anchor.specs.declared.storage_memo.ReadAnchor.{ReadAnchor}
-use Rattle.head_attempt.specs.declared.head_lifecycle.HeadCompletion.{HeadCompletion}
-use Rattle.head_count.specs.declared.head_lifecycle.HeadStats.{HeadStats}
-use Rattle.head_current.specs.declared.head_lifecycle.LastReport.{LastReport}
-use Rattle.head_driver.specs.declared.head_lifecycle.Answer.{Answer}
-use Rattle.head_ready.specs.declared.head_lifecycle.HeadOutcome.{HeadOutcome}
-use Rattle.head_ready.specs.declared.head_lifecycle.HeadView.{HeadView}
+use Rattle.head_anchor.specs.declared.CarryOutcome.{CarryOutcome}
+use Rattle.head_anchor.specs.declared.Link.{Link}
+use Rattle.head_anchor.specs.declared.AnchorSlot.{AnchorSlot}
+use Rattle.head_anchor.specs.declared.ReadAnchor.{ReadAnchor}
+use Rattle.head_attempt.specs.declared.HeadCompletion.{HeadCompletion}
+use Rattle.head_count.specs.declared.HeadStats.{HeadStats}
+use Rattle.head_current.specs.declared.LastReport.{LastReport}
+use Rattle.head_driver.specs.declared.Answer.{Answer}
+use Rattle.head_ready.specs.declared.HeadOutcome.{HeadOutcome}
+use Rattle.head_ready.specs.declared.HeadView.{HeadView}
 use Rattle.value_text.specs.declared.page.Page.{Page}
 use Rattle.answer_back.specs.Ranges.{AnswerFits, HeadOutcomeFits}
 use Rattle.answer_back.specs.Reads.{answerNamed, readAnswer, readForeign, readHeads, readRefused, readView, refusedBy}

@@ -15,7 +15,7 @@ use Rattle.text.specs.Ascii.{ascii}
 use Rattle.text.specs.Decimals.{decimal}
 use Rattle.text.specs.Rests.{after, at, step}
 use Rattle.text.specs.Words.{run}
-use Rattle.head_driver.specs.declared.head_lifecycle.Answer.{Answer}
+use Rattle.head_driver.specs.declared.Answer.{Answer}
 use Rattle.value_text.specs.declared.page.Page.{Page}
 use Rattle.answer_back.specs.Reads.{answerNamed, readAnswer}
 

@@ -4,8 +4,8 @@ use Rattle.hash.specs.Ranges.{Fits}
 use Rattle.head_ready.specs.Ranges.{ReadinessFits}
 use Rattle.head_current.specs.Ranges.{ReportFits}
 use Rattle.head_count.specs.Ranges.{StatsFit}
-use Rattle.head_driver.specs.declared.head_lifecycle.Answer.{Answer}
-use Rattle.head_ready.specs.declared.head_lifecycle.HeadOutcome.{HeadOutcome}
+use Rattle.head_driver.specs.declared.Answer.{Answer}
+use Rattle.head_ready.specs.declared.HeadOutcome.{HeadOutcome}
 
 abbrev pub HeadOutcomeFits : HeadOutcome → Type 0
 HeadOutcomeFits (HeadOutcome.Settled o) = OutcomeFits o

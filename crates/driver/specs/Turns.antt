@@ -6,8 +6,8 @@ use Rattle.head_step.specs.Steps.{step}
 use Rattle.script_call.specs.Calls.{call}
 use Rattle.script_sheet.specs.Sheets.{sheetText}
 use Rattle.script_value.specs.Buffers.{bufferAfter, written}
-use Rattle.head_driver.specs.declared.head_lifecycle.Driver.{Driver}
-use Rattle.head_driver.specs.declared.head_lifecycle.Reply.{Reply}
+use Rattle.head_driver.specs.declared.Driver.{Driver}
+use Rattle.head_driver.specs.declared.Reply.{Reply}
 use Rattle.script_call.specs.declared.LineCall.{LineCall}
 use Rattle.script_value.specs.declared.buffer.Written.{Written}
 use Rattle.script_answer.specs.declared.LineAnswer.{LineAnswer}

@@ -2,16 +2,15 @@
 // Knows nothing of where lines come from.
 ghost use mathlib.Core.Path.{_≡_};
 ghost use Rattle.driver.specs.Turns.{Takes, made, sheetAnswer};
-use head_driver::head_lifecycle::Driver;
-use head_driver::head_lifecycle::Reply;
+use head_driver::Driver;
+use head_driver::Reply;
 use head_step::head_lifecycle::step;
+pub use script_answer::LineAnswer;
+pub use script_answer::put_line;
 use script_call::LineCall;
 use script_call::read_call;
 use script_sheet::put_sheet;
 use script_value::buffer::Written;
-
-pub use script_answer::LineAnswer;
-pub use script_answer::put_line;
 
 pub struct Turn {
     pub driver: Driver,

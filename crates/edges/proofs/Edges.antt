@@ -14,7 +14,7 @@ use Rattle.script_call.specs.Calls.{call}
 use Rattle.script_sheet.specs.Sheets.{sheetText}
 use Rattle.script_value.specs.Buffers.{written}
 use Rattle.text.specs.Ascii.{ascii}
-use Rattle.head_driver.specs.declared.head_lifecycle.Driver.{Driver}
+use Rattle.head_driver.specs.declared.Driver.{Driver}
 use Rattle.script_call.specs.declared.LineCall.{LineCall}
 use Rattle.edges.specs.Runs.{Line, expected, printed, printedBy}
 use Rattle.edges.specs.Statements.{EveryEdge, Holds}

@@ -5,7 +5,7 @@ use Rattle.driver.specs.Turns.{sheetAfter, turnOf}
 use Rattle.script_answer.specs.Answers.{lineText}
 use Rattle.rules.specs.Sheets.{toLastFeed, wroteOf}
 use Rattle.script_call.specs.Calls.{call}
-use Rattle.head_driver.specs.declared.head_lifecycle.Driver.{Driver}
+use Rattle.head_driver.specs.declared.Driver.{Driver}
 use Rattle.script_call.specs.declared.LineCall.{LineCall}
 
 -- a line, and what it prints

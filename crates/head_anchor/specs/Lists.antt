@@ -5,13 +5,13 @@ use mathlib.Core.Bool.{Bool, true, false, not}
 use Rattle.hash.specs.Logic.{both, if}
 use Rattle.hash.specs.declared.Hash.{Hash}
 use Rattle.head_anchor.specs.Links.{classifyLink}
-use Rattle.head_anchor.specs.declared.bal_prefetch.BalSkip.{BalSkip}
-use Rattle.head_anchor.specs.declared.read_hub.CarryOutcome.{CarryOutcome}
-use Rattle.head_anchor.specs.declared.read_hub.Link.{Link}
-use Rattle.head_anchor.specs.declared.read_hub.PreparedBal.{PreparedBal}
-use Rattle.head_anchor.specs.declared.storage_memo.AnchorSlot.{AnchorSlot}
-use Rattle.head_anchor.specs.declared.storage_memo.BlockHash.{BlockHash}
-use Rattle.head_anchor.specs.declared.storage_memo.ReadAnchor.{ReadAnchor}
+use Rattle.head_anchor.specs.declared.BalSkip.{BalSkip}
+use Rattle.head_anchor.specs.declared.CarryOutcome.{CarryOutcome}
+use Rattle.head_anchor.specs.declared.Link.{Link}
+use Rattle.head_anchor.specs.declared.PreparedBal.{PreparedBal}
+use Rattle.head_anchor.specs.declared.AnchorSlot.{AnchorSlot}
+use Rattle.head_anchor.specs.declared.BlockHash.{BlockHash}
+use Rattle.head_anchor.specs.declared.ReadAnchor.{ReadAnchor}
 
 unfoldable pub hasHash : BlockHash → Bool
 hasHash BlockHash.Unknown = false

@@ -1,10 +1,10 @@
 -- Every number of a value is one of 64 bits. The types of a theorem do not say so: there a number has no limit.
 use Rattle.hash.specs.Ranges.{Fits, HashFits}
-use Rattle.head_anchor.specs.declared.bal_prefetch.BalSkip.{BalSkip}
-use Rattle.head_anchor.specs.declared.read_hub.CarryOutcome.{CarryOutcome}
-use Rattle.head_anchor.specs.declared.storage_memo.AnchorSlot.{AnchorSlot}
-use Rattle.head_anchor.specs.declared.storage_memo.BlockHash.{BlockHash}
-use Rattle.head_anchor.specs.declared.storage_memo.ReadAnchor.{ReadAnchor}
+use Rattle.head_anchor.specs.declared.BalSkip.{BalSkip}
+use Rattle.head_anchor.specs.declared.CarryOutcome.{CarryOutcome}
+use Rattle.head_anchor.specs.declared.AnchorSlot.{AnchorSlot}
+use Rattle.head_anchor.specs.declared.BlockHash.{BlockHash}
+use Rattle.head_anchor.specs.declared.ReadAnchor.{ReadAnchor}
 
 abbrev pub BlockHashFits : BlockHash → Type 0
 BlockHashFits BlockHash.Unknown = Unit {0}

@@ -2,12 +2,12 @@
 use Prim.Native.Nat.{ℕ}
 use Rattle.hash.specs.declared.Hash.{Hash}
 use Rattle.head_anchor.specs.Words.{Word}
-use Rattle.head_anchor.specs.declared.bal_prefetch.BalSkip.{BalSkip}
-use Rattle.head_anchor.specs.declared.read_hub.CarryOutcome.{CarryOutcome}
-use Rattle.head_anchor.specs.declared.read_hub.Link.{Link}
-use Rattle.head_anchor.specs.declared.storage_memo.AnchorSlot.{AnchorSlot}
-use Rattle.head_anchor.specs.declared.storage_memo.BlockHash.{BlockHash}
-use Rattle.head_anchor.specs.declared.storage_memo.ReadAnchor.{ReadAnchor}
+use Rattle.head_anchor.specs.declared.BalSkip.{BalSkip}
+use Rattle.head_anchor.specs.declared.CarryOutcome.{CarryOutcome}
+use Rattle.head_anchor.specs.declared.Link.{Link}
+use Rattle.head_anchor.specs.declared.AnchorSlot.{AnchorSlot}
+use Rattle.head_anchor.specs.declared.BlockHash.{BlockHash}
+use Rattle.head_anchor.specs.declared.ReadAnchor.{ReadAnchor}
 
 pub data Value : Type 0 where
   word : Word → Value

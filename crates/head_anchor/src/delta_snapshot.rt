@@ -1,14 +1,14 @@
 // From delta_snapshot.rs: the outcome of `DeltaSnapshotCache::apply_prepared`.
 ghost use mathlib.Core.Path.{_≡_};
 ghost use Rattle.head_anchor.specs.Lists.{outcome, applyPrepared};
-use crate::bal_prefetch::BalSkip;
-use crate::read_hub::CarryOutcome;
-use crate::read_hub::Link;
+use crate::AnchorSlot;
+use crate::BalSkip;
+use crate::CarryOutcome;
+use crate::Link;
+use crate::ReadAnchor;
 use crate::read_hub::classify_link;
 use crate::read_hub::is_linked;
 use crate::read_hub::is_read;
-use crate::storage_memo::AnchorSlot;
-use crate::storage_memo::ReadAnchor;
 use hash::Hash;
 use hash::both;
 

@@ -1,34 +1,15 @@
-// From read_hub.rs: the link test, a prepared list, and what an apply of it does.
+// From read_hub.rs: the link test, and what a prepared list can be.
 ghost use mathlib.Core.Path.{_≡_};
 ghost use Rattle.head_anchor.specs.Links.{follows, linkByHash, classifyLink};
 ghost use Rattle.head_anchor.specs.Lists.{hasHash, isNoHash, isLinked, isRead, asPrepared};
-use crate::bal_prefetch::BalSkip;
-use crate::storage_memo::AnchorSlot;
-use crate::storage_memo::BlockHash;
-use crate::storage_memo::ReadAnchor;
+use crate::AnchorSlot;
+use crate::BalSkip;
+use crate::BlockHash;
+use crate::Link;
+use crate::PreparedBal;
+use crate::ReadAnchor;
 use hash::Hash;
 use hash::same_hash;
-
-// The Rust's `Option<CarryRefusal>`: linked, or what is wrong with the link.
-pub enum Link {
-    Linked,
-    NoParent,
-    NotConsecutive,
-    HashUnknown,
-    HashMismatch,
-}
-
-// A list that was prepared for an anchor. Its values stay with the host.
-pub struct PreparedBal {
-    pub anchor: ReadAnchor,
-    pub skip: BalSkip,
-}
-
-// The number that `Carried` holds is the host's.
-pub enum CarryOutcome {
-    Carried(u64),
-    Cold(Link, BalSkip),
-}
 
 // The Rust's `checked_add(1)`: the largest number has no successor.
 pub(crate) fn follows(parent: u64, child: u64) -> bool

@@ -1,26 +1,11 @@
-// From storage_memo.rs: the anchor, and when two are equal.
+// From storage_memo.rs: when two anchors are equal.
 ghost use mathlib.Core.Path.{_≡_};
 ghost use Rattle.head_anchor.specs.Anchors.{sameBlockHash, sameAnchor, holds};
-use hash::Hash;
+use crate::AnchorSlot;
+use crate::BlockHash;
+use crate::ReadAnchor;
 use hash::both;
 use hash::same_hash;
-
-// The Rust's `Option<B256>` in an anchor.
-pub enum BlockHash {
-    Unknown,
-    Known(Hash),
-}
-
-pub struct ReadAnchor {
-    pub number: u64,
-    pub hash: BlockHash,
-}
-
-// The Rust's `Option<ReadAnchor>`.
-pub enum AnchorSlot {
-    Nothing,
-    At(ReadAnchor),
-}
 
 pub(crate) fn same_block_hash(a: BlockHash, b: BlockHash) -> bool
     ensures { λ r. ⌜ r ≡ sameBlockHash a b ⌝ }

@@ -7,18 +7,18 @@ use Rattle.head_life.specs.State.{counted}
 use Rattle.head_plan.specs.Plans.{planApply}
 use Rattle.head_ready.specs.Generations.{slotAnchor}
 use Rattle.head_settle.specs.Settles.{settle}
-use Rattle.head_anchor.specs.declared.bal_prefetch.BalSkip.{BalSkip}
-use Rattle.head_anchor.specs.declared.read_hub.CarryOutcome.{CarryOutcome}
-use Rattle.head_anchor.specs.declared.read_hub.PreparedBal.{PreparedBal}
-use Rattle.head_anchor.specs.declared.storage_memo.ReadAnchor.{ReadAnchor}
-use Rattle.head_attempt.specs.declared.head_lifecycle.HeadCompletion.{HeadCompletion}
-use Rattle.head_count.specs.declared.head_lifecycle.Counter.{Counter}
-use Rattle.head_current.specs.declared.head_lifecycle.HeadTicket.{HeadTicket}
-use Rattle.head_driver.specs.declared.head_lifecycle.Answer.{Answer}
-use Rattle.head_driver.specs.declared.head_lifecycle.Driver.{Driver}
-use Rattle.head_driver.specs.declared.head_lifecycle.Reply.{Reply}
+use Rattle.head_anchor.specs.declared.BalSkip.{BalSkip}
+use Rattle.head_anchor.specs.declared.CarryOutcome.{CarryOutcome}
+use Rattle.head_anchor.specs.declared.PreparedBal.{PreparedBal}
+use Rattle.head_anchor.specs.declared.ReadAnchor.{ReadAnchor}
+use Rattle.head_attempt.specs.declared.HeadCompletion.{HeadCompletion}
+use Rattle.head_count.specs.declared.Counter.{Counter}
+use Rattle.head_current.specs.declared.HeadTicket.{HeadTicket}
+use Rattle.head_driver.specs.declared.Answer.{Answer}
+use Rattle.head_driver.specs.declared.Driver.{Driver}
+use Rattle.head_driver.specs.declared.Reply.{Reply}
 use Rattle.head_plan.specs.declared.head_lifecycle.ApplyPlan.{ApplyPlan}
-use Rattle.head_ready.specs.declared.head_lifecycle.HeadOutcome.{HeadOutcome}
+use Rattle.head_ready.specs.declared.HeadOutcome.{HeadOutcome}
 
 -- an admitted apply: the head settles, and so does the preparation, if there is one; the answer is the outcome
 unfoldable pub settleAs : Driver → ReadAnchor → CarryOutcome → ℕ → ℕ → Reply

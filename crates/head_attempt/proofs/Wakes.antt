@@ -5,9 +5,9 @@ use mathlib.Core.Path.{_≡_, refl, ap}
 use mathlib.Core.List.{List, [], _∷_}
 use lib.ListN.{length, getD, set}
 use Rattle.head_attempt.specs.Waiters.{slotOf, woken, wake}
-use Rattle.head_attempt.specs.declared.head_lifecycle.HeadCompletion.{HeadCompletion}
-use Rattle.head_anchor.specs.declared.storage_memo.ReadAnchor.{ReadAnchor}
-use Rattle.head_attempt.specs.declared.head_lifecycle.WaiterSlot.{WaiterSlot}
+use Rattle.head_attempt.specs.declared.HeadCompletion.{HeadCompletion}
+use Rattle.head_anchor.specs.declared.ReadAnchor.{ReadAnchor}
+use Rattle.head_attempt.specs.declared.WaiterSlot.{WaiterSlot}
 
 -- the first n are as they are, and the rest is woken
 unfoldable pub wakeFrom : HeadCompletion → ReadAnchor → ℕ → List WaiterSlot → List WaiterSlot

@@ -1,8 +1,8 @@
 -- Document 01, "Lifecycle": an attempt has an epoch and at most one end: settled, superseded or abandoned. The first end stays.
 -- The Rust: `ClaimAttempt`, of head_lifecycle.rs.
-use Rattle.head_attempt.specs.declared.head_lifecycle.ClaimAttempt.{ClaimAttempt}
-use Rattle.head_attempt.specs.declared.head_lifecycle.HeadCompletion.{HeadCompletion}
-use Rattle.head_count.specs.declared.head_lifecycle.Epoch.{Epoch}
+use Rattle.head_attempt.specs.declared.ClaimAttempt.{ClaimAttempt}
+use Rattle.head_attempt.specs.declared.HeadCompletion.{HeadCompletion}
+use Rattle.head_count.specs.declared.Epoch.{Epoch}
 
 -- a new open attempt: `ClaimAttempt::minted`
 unfoldable pub minted : Epoch → ClaimAttempt

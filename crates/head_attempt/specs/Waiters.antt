@@ -1,10 +1,10 @@
 -- Document 01, "The sixteen waiters": each parked waiter waits on the current preparation, and the call that ends this preparation ends them all.
 -- The Rust: the receivers that `wait_for_head` takes of an attempt's `watch` channel, of head_lifecycle.rs.
 use mathlib.Core.List.{List, [], _∷_}
-use Rattle.head_anchor.specs.declared.storage_memo.ReadAnchor.{ReadAnchor}
-use Rattle.head_attempt.specs.declared.head_lifecycle.HeadCompletion.{HeadCompletion}
-use Rattle.head_attempt.specs.declared.head_lifecycle.Waiter.{Waiter}
-use Rattle.head_attempt.specs.declared.head_lifecycle.WaiterSlot.{WaiterSlot}
+use Rattle.head_anchor.specs.declared.ReadAnchor.{ReadAnchor}
+use Rattle.head_attempt.specs.declared.HeadCompletion.{HeadCompletion}
+use Rattle.head_attempt.specs.declared.Waiter.{Waiter}
+use Rattle.head_attempt.specs.declared.WaiterSlot.{WaiterSlot}
 
 -- a waiter after the preparation at that anchor has ended so: only a parked one is woken
 unfoldable pub woken : HeadCompletion → ReadAnchor → Waiter → Waiter

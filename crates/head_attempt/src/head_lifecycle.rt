@@ -1,34 +1,13 @@
-// From head_lifecycle.rs: `HeadCompletion`, `ClaimAttempt`, and the ends of its `watch` channel as waiters.
+// From head_lifecycle.rs: the methods of `ClaimAttempt`, and what its `watch` channel does, waking those who wait.
 ghost use mathlib.Core.Path.{_≡_};
 ghost use Rattle.head_attempt.specs.Attempts.{firstEnd, minted, publish, settled};
 ghost use Rattle.head_attempt.specs.Waiters.{wake, woken};
-use head_anchor::storage_memo::ReadAnchor;
-use head_count::head_lifecycle::Epoch;
-
-// The Rust's `Option<HeadCompletion>`: an attempt that has not ended is open.
-pub enum HeadCompletion {
-    Open,
-    Settled,
-    Superseded,
-    Abandoned,
-}
-
-pub struct ClaimAttempt {
-    pub epoch: Epoch,
-    pub end: HeadCompletion,
-}
-
-// A parked waiter needs no anchor: it waits on the current preparation.
-pub enum Waiter {
-    Free,
-    Parked,
-    Abandoned(ReadAnchor),
-    Ended(ReadAnchor),
-}
-
-pub struct WaiterSlot {
-    pub waiter: Waiter,
-}
+use crate::ClaimAttempt;
+use crate::HeadCompletion;
+use crate::Waiter;
+use crate::WaiterSlot;
+use head_anchor::ReadAnchor;
+use head_count::Epoch;
 
 // The first end stays.
 pub(crate) fn first_end(end: HeadCompletion, later: HeadCompletion) -> HeadCompletion

@@ -2,8 +2,8 @@
 -- of lines and of the sheet's buffer.)
 use Prim.Native.Nat.{ℕ}
 use Rattle.head_call.specs.Tests.{listRefusal, waiterRefusal}
-use Rattle.head_call.specs.declared.head_lifecycle.Call.{Call}
-use Rattle.head_call.specs.declared.head_lifecycle.InputRefusal.{InputRefusal}
+use Rattle.head_call.specs.declared.Call.{Call}
+use Rattle.head_call.specs.declared.InputRefusal.{InputRefusal}
 
 -- 0 where the input is taken
 unfoldable pub inputNumber : InputRefusal → ℕ

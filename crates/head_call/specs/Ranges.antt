@@ -1,7 +1,7 @@
 -- A call that a line can write: each of its numbers, and each word of its hashes, is below 2^64.
 use Rattle.hash.specs.Ranges.{Fits, HashFits}
 use Rattle.head_anchor.specs.Ranges.{AnchorFits, SkipFits, SlotFits}
-use Rattle.head_call.specs.declared.head_lifecycle.Call.{Call}
+use Rattle.head_call.specs.declared.Call.{Call}
 
 abbrev pub Writable : Call → Type 0
 Writable (Call.Deliver a p cold) = AnchorFits a × HashFits p × Fits cold

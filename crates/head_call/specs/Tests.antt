@@ -3,8 +3,8 @@ use Prim.Native.Nat.{ℕ}
 use lib.Dec.{ltb}
 use Rattle.hash.specs.Logic.{if}
 use Rattle.head_anchor.specs.Lists.{asPrepared}
-use Rattle.head_anchor.specs.declared.read_hub.PreparedBal.{PreparedBal}
-use Rattle.head_call.specs.declared.head_lifecycle.InputRefusal.{InputRefusal}
+use Rattle.head_anchor.specs.declared.PreparedBal.{PreparedBal}
+use Rattle.head_call.specs.declared.InputRefusal.{InputRefusal}
 
 unfoldable pub listRefusal : PreparedBal → InputRefusal
 listRefusal list = if (asPrepared list) InputRefusal.Nothing InputRefusal.ListAtOdds

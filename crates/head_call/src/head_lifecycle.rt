@@ -1,38 +1,12 @@
-// Every call on a driver as a value. The Rust has a method for each.
+// Which calls their input alone turns away. The Rust has a method for each call, and such input cannot be made there.
 ghost use mathlib.Core.Path.{_≡_};
 ghost use Rattle.head_call.specs.Inputs.{inputNumber, inputRefusal};
 ghost use Rattle.head_call.specs.Tests.{listRefusal, waiterRefusal};
-use hash::Hash;
-use head_anchor::read_hub::Link;
-use head_anchor::read_hub::PreparedBal;
+use crate::Call;
+use crate::InputRefusal;
+use head_anchor::Link;
+use head_anchor::PreparedBal;
 use head_anchor::read_hub::as_prepared;
-use head_anchor::storage_memo::AnchorSlot;
-use head_anchor::storage_memo::ReadAnchor;
-use head_current::head_lifecycle::HeadTicket;
-use head_current::head_lifecycle::PrepareClaim;
-
-// The calls in demand 3's order. The sheet, which changes nothing, is a line's and not a call's here.
-pub enum Call {
-    Deliver(ReadAnchor, Hash, u64),
-    Claim(HeadTicket),
-    Release(PrepareClaim),
-    Apply(HeadTicket, PreparedBal, u64, u64, u64),
-    Snapshot(ReadAnchor, u64),
-    Wait(u64, ReadAnchor, u64),
-    Resume(u64, u64),
-    Completion(ReadAnchor),
-    Link(AnchorSlot, ReadAnchor, Hash),
-    Report,
-    Stats,
-    Heads,
-}
-
-// Why a call is turned away by its input alone.
-pub enum InputRefusal {
-    Nothing,
-    ListAtOdds,
-    WaiterOutOfRange,
-}
 
 impl InputRefusal {
     // The refusal's number, or 0 where the input is taken.

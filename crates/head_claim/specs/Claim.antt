@@ -1,9 +1,9 @@
 -- Document 01, "Lifecycle" and "Turned away by the state": the call claim on a driver. The Rust: the claim of `advance_with_relevance`, of head_lifecycle.rs.
 use Rattle.head_claim.specs.Parts.{claimAs}
 use Rattle.head_claim.specs.Starts.{claimStart}
-use Rattle.head_current.specs.declared.head_lifecycle.HeadTicket.{HeadTicket}
-use Rattle.head_driver.specs.declared.head_lifecycle.Driver.{Driver}
-use Rattle.head_driver.specs.declared.head_lifecycle.Reply.{Reply}
+use Rattle.head_current.specs.declared.HeadTicket.{HeadTicket}
+use Rattle.head_driver.specs.declared.Driver.{Driver}
+use Rattle.head_driver.specs.declared.Reply.{Reply}
 
 -- `claim`: epoch plus 1, unclaimed becomes preparing, with a new open attempt of that epoch; or 11, 13 or 14, and nothing changes.
 unfoldable pub claim : Driver → HeadTicket → Reply

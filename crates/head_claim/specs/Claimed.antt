@@ -2,9 +2,9 @@
 use Rattle.head_attempt.specs.Attempts.{minted}
 use Rattle.head_current.specs.Parts.{withAttempt}
 use Rattle.head_life.specs.State.{withHead}
-use Rattle.head_count.specs.declared.head_lifecycle.Epoch.{Epoch}
-use Rattle.head_current.specs.declared.head_lifecycle.CurrentHead.{CurrentHead}
-use Rattle.head_life.specs.declared.head_lifecycle.HeadLifecycle.{HeadLifecycle}
+use Rattle.head_count.specs.declared.Epoch.{Epoch}
+use Rattle.head_current.specs.declared.CurrentHead.{CurrentHead}
+use Rattle.head_life.specs.declared.HeadLifecycle.{HeadLifecycle}
 
 -- claim: unclaimed becomes preparing, with a new open attempt of that epoch
 unfoldable pub claimedHead : CurrentHead → Epoch → CurrentHead

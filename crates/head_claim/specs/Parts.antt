@@ -4,15 +4,15 @@ use Rattle.head_claim.specs.Starts.{claimGate}
 use Rattle.head_count.specs.Counters.{nextEpoch}
 use Rattle.head_driver.specs.Parts.{replyOf, withLife}
 use Rattle.head_ready.specs.Refusals.{refused-11, refused-13, refused-14}
-use Rattle.head_anchor.specs.declared.storage_memo.AnchorSlot.{AnchorSlot}
+use Rattle.head_anchor.specs.declared.AnchorSlot.{AnchorSlot}
 use Rattle.head_claim.specs.declared.head_lifecycle.ClaimStart.{ClaimStart}
-use Rattle.head_count.specs.declared.head_lifecycle.Epoch.{Epoch}
-use Rattle.head_current.specs.declared.head_lifecycle.CurrentHead.{CurrentHead}
-use Rattle.head_current.specs.declared.head_lifecycle.DeliverySlot.{DeliverySlot}
-use Rattle.head_current.specs.declared.head_lifecycle.HeadTicket.{HeadTicket}
-use Rattle.head_driver.specs.declared.head_lifecycle.Answer.{Answer}
-use Rattle.head_driver.specs.declared.head_lifecycle.Driver.{Driver}
-use Rattle.head_driver.specs.declared.head_lifecycle.Reply.{Reply}
+use Rattle.head_count.specs.declared.Epoch.{Epoch}
+use Rattle.head_current.specs.declared.CurrentHead.{CurrentHead}
+use Rattle.head_current.specs.declared.DeliverySlot.{DeliverySlot}
+use Rattle.head_current.specs.declared.HeadTicket.{HeadTicket}
+use Rattle.head_driver.specs.declared.Answer.{Answer}
+use Rattle.head_driver.specs.declared.Driver.{Driver}
+use Rattle.head_driver.specs.declared.Reply.{Reply}
 
 -- what a head's state allows; of no head nobody asks
 unfoldable pub claimNext : CurrentHead → Epoch → ClaimStart

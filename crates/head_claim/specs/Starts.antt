@@ -5,13 +5,13 @@ use Rattle.head_count.specs.Counters.{nextEpoch}
 use Rattle.head_current.specs.Heads.{ticketOf}
 use Rattle.head_ready.specs.Generations.{slotAnchor}
 use Rattle.head_ready.specs.Refusals.{refused-11, refused-13, refused-14}
-use Rattle.head_anchor.specs.declared.storage_memo.AnchorSlot.{AnchorSlot}
+use Rattle.head_anchor.specs.declared.AnchorSlot.{AnchorSlot}
 use Rattle.head_claim.specs.declared.head_lifecycle.ClaimStart.{ClaimStart}
-use Rattle.head_count.specs.declared.head_lifecycle.Epoch.{Epoch}
-use Rattle.head_current.specs.declared.head_lifecycle.CurrentHead.{CurrentHead}
-use Rattle.head_current.specs.declared.head_lifecycle.HeadDelivery.{HeadDelivery}
-use Rattle.head_current.specs.declared.head_lifecycle.HeadTicket.{HeadTicket}
-use Rattle.head_life.specs.declared.head_lifecycle.HeadLifecycle.{HeadLifecycle}
+use Rattle.head_count.specs.declared.Epoch.{Epoch}
+use Rattle.head_current.specs.declared.CurrentHead.{CurrentHead}
+use Rattle.head_current.specs.declared.HeadDelivery.{HeadDelivery}
+use Rattle.head_current.specs.declared.HeadTicket.{HeadTicket}
+use Rattle.head_life.specs.declared.HeadLifecycle.{HeadLifecycle}
 
 -- 11 if the ticket's anchor or seq is not the current head's, naming the current anchor; 13 if the head is installed; else what its state allows
 unfoldable pub claimGate : AnchorSlot → HeadDelivery → HeadTicket → ClaimStart → ClaimStart

@@ -6,21 +6,21 @@ ghost use Rattle.head_claim.specs.Parts.{claimAs, claimNext, startOf};
 ghost use Rattle.head_claim.specs.Starts.{claimGate, claimStart};
 ghost use Rattle.head_current.specs.Heads.{delivery};
 ghost use Rattle.head_driver.specs.Answers.{Replies};
-use head_anchor::storage_memo::AnchorSlot;
+use head_anchor::AnchorSlot;
 use head_anchor::storage_memo::holds;
-use head_attempt::head_lifecycle::ClaimAttempt;
-use head_count::head_lifecycle::Epoch;
-use head_current::head_lifecycle::CurrentHead;
-use head_current::head_lifecycle::DeliverySlot;
-use head_current::head_lifecycle::HeadDelivery;
-use head_current::head_lifecycle::HeadTicket;
-use head_current::head_lifecycle::UnsettledHead;
-use head_driver::head_lifecycle::Answer;
-use head_driver::head_lifecycle::Driver;
-use head_driver::head_lifecycle::Reply;
+use head_attempt::ClaimAttempt;
+use head_count::Epoch;
+use head_current::CurrentHead;
+use head_current::DeliverySlot;
+use head_current::HeadDelivery;
+use head_current::HeadTicket;
+use head_current::UnsettledHead;
+use head_driver::Answer;
+use head_driver::Driver;
+use head_driver::Reply;
 use head_driver::head_lifecycle::answered;
-use head_life::head_lifecycle::HeadLifecycle;
-use head_ready::head_lifecycle::HeadOutcome;
+use head_life::HeadLifecycle;
+use head_ready::HeadOutcome;
 
 pub enum ClaimStart {
     Claimed(Epoch),

@@ -2,10 +2,10 @@
 use Rattle.hash.specs.Logic.{if}
 use Rattle.head_anchor.specs.Anchors.{holds}
 use Rattle.head_current.specs.Heads.{anchorOf, delivery}
-use Rattle.head_anchor.specs.declared.storage_memo.ReadAnchor.{ReadAnchor}
-use Rattle.head_attempt.specs.declared.head_lifecycle.HeadCompletion.{HeadCompletion}
-use Rattle.head_current.specs.declared.head_lifecycle.CurrentHead.{CurrentHead}
-use Rattle.head_life.specs.declared.head_lifecycle.HeadLifecycle.{HeadLifecycle}
+use Rattle.head_anchor.specs.declared.ReadAnchor.{ReadAnchor}
+use Rattle.head_attempt.specs.declared.HeadCompletion.{HeadCompletion}
+use Rattle.head_current.specs.declared.CurrentHead.{CurrentHead}
+use Rattle.head_life.specs.declared.HeadLifecycle.{HeadLifecycle}
 
 -- the current attempt's end: `ClaimAttempt::published`
 unfoldable pub published : CurrentHead → HeadCompletion

@@ -3,16 +3,16 @@ ghost use mathlib.Core.Path.{_≡_};
 ghost use Rattle.head_completion.specs.Completion.{completion};
 ghost use Rattle.head_completion.specs.Ends.{endAt, published};
 ghost use Rattle.head_driver.specs.Answers.{Replies};
-use head_anchor::storage_memo::ReadAnchor;
+use head_anchor::ReadAnchor;
 use head_anchor::storage_memo::holds;
-use head_attempt::head_lifecycle::ClaimAttempt;
-use head_attempt::head_lifecycle::HeadCompletion;
-use head_current::head_lifecycle::CurrentHead;
-use head_driver::head_lifecycle::Answer;
-use head_driver::head_lifecycle::Driver;
-use head_driver::head_lifecycle::Reply;
+use head_attempt::ClaimAttempt;
+use head_attempt::HeadCompletion;
+use head_current::CurrentHead;
+use head_driver::Answer;
+use head_driver::Driver;
+use head_driver::Reply;
 use head_driver::head_lifecycle::answered;
-use head_life::head_lifecycle::HeadLifecycle;
+use head_life::HeadLifecycle;
 
 // The end that an attempt has published.
 pub(crate) fn end_of(attempt: ClaimAttempt) -> HeadCompletion

@@ -3,10 +3,10 @@ use Prim.Native.Nat.{_+_, ℕ}
 use mathlib.Core.Bool.{Bool}
 use lib.Dec.{eqb, ltb}
 use Rattle.hash.specs.Logic.{if}
-use Rattle.head_count.specs.declared.head_lifecycle.Counter.{Counter}
-use Rattle.head_count.specs.declared.head_lifecycle.Epoch.{Epoch}
-use Rattle.head_count.specs.declared.head_lifecycle.HeadStats.{HeadStats}
-use Rattle.head_count.specs.declared.head_lifecycle.Seq.{Seq}
+use Rattle.head_count.specs.declared.Counter.{Counter}
+use Rattle.head_count.specs.declared.Epoch.{Epoch}
+use Rattle.head_count.specs.declared.HeadStats.{HeadStats}
+use Rattle.head_count.specs.declared.Seq.{Seq}
 
 -- one more, and never above 2^64 - 1
 unfoldable pub up : ℕ → ℕ

@@ -1,34 +1,10 @@
-// From head_lifecycle.rs: `seq` and `epoch` as types of their own, `HeadStats`.
+// From head_lifecycle.rs: delivery numbers, epochs and counters rise, and saturate.
 ghost use mathlib.Core.Path.{_≡_};
 ghost use Rattle.head_count.specs.Counters.{nextEpoch, nextSeq, noneCounted, raise, recordView, sameEpoch, sameSeq, up};
-
-// A delivery number: the Rust's `seq`. A type of its own, so that it is never taken where a claim epoch is asked for.
-pub struct Seq(pub u64);
-
-// A claim epoch: the Rust's `epoch`.
-pub struct Epoch(pub u64);
-
-pub enum Counter {
-    Delivered,
-    Repeated,
-    Superseded,
-    Settled,
-    AlreadyCurrent,
-    Discarded,
-    ReadyViews,
-    ColdViews,
-}
-
-pub struct HeadStats {
-    pub delivered: u64,
-    pub repeated: u64,
-    pub superseded: u64,
-    pub settled: u64,
-    pub already_current: u64,
-    pub discarded: u64,
-    pub ready_views: u64,
-    pub cold_views: u64,
-}
+use crate::Counter;
+use crate::Epoch;
+use crate::HeadStats;
+use crate::Seq;
 
 // The Rust's `saturating_add(1)`.
 pub(crate) fn raised(n: u64) -> u64

@@ -1,65 +1,13 @@
-// From head_lifecycle.rs: `HeadTicket`, `PrepareClaim`, `HeadDelivery`, `UnsettledHead`, `SettledHead`, `CurrentHead`.
+// From head_lifecycle.rs: what a delivery and the current head tell of themselves.
 ghost use mathlib.Core.Path.{_≡_};
 ghost use Rattle.head_current.specs.Heads.{anchorOf, delivery, ticketOf};
-use hash::Hash;
+use crate::CurrentHead;
+use crate::DeliverySlot;
+use crate::HeadDelivery;
+use crate::HeadTicket;
 use hash::both;
-use head_anchor::read_hub::CarryOutcome;
-use head_anchor::storage_memo::AnchorSlot;
-use head_anchor::storage_memo::ReadAnchor;
+use head_anchor::AnchorSlot;
 use head_anchor::storage_memo::same_anchor;
-use head_attempt::head_lifecycle::ClaimAttempt;
-use head_count::head_lifecycle::Epoch;
-use head_count::head_lifecycle::Seq;
-
-pub struct HeadTicket {
-    pub anchor: ReadAnchor,
-    pub seq: Seq,
-}
-
-// What a release names: the Rust's `PrepareClaim` without its driver.
-pub struct PrepareClaim {
-    pub seq: Seq,
-    pub epoch: Epoch,
-}
-
-pub struct HeadDelivery {
-    pub anchor: ReadAnchor,
-    pub parent_hash: Hash,
-    pub seq: Seq,
-}
-
-// The Rust's `Option<&HeadDelivery>`.
-pub enum DeliverySlot {
-    Nothing,
-    Held(HeadDelivery),
-}
-
-// `provisional` is the handle of the cold generation that the host made.
-pub struct UnsettledHead {
-    pub delivery: HeadDelivery,
-    pub provisional: u64,
-    pub attempt: ClaimAttempt,
-}
-
-// The Rust's `Option<Arc<DeltaReport>>`: the outcome, and the host's number for the rest.
-pub enum LastReport {
-    Nothing,
-    Made(CarryOutcome, u64),
-}
-
-pub struct SettledHead {
-    pub delivery: HeadDelivery,
-    pub report: LastReport,
-    pub attempt: ClaimAttempt,
-}
-
-// The Rust's `Option<CurrentHead>`.
-pub enum CurrentHead {
-    Absent,
-    Unclaimed(UnsettledHead),
-    Preparing(UnsettledHead),
-    Settled(SettledHead),
-}
 
 impl HeadDelivery {
     // Whether the ticket is this delivery's.

@@ -9,16 +9,16 @@ use Rattle.head_current.specs.Heads.{delivery}
 use Rattle.head_current.specs.Parts.{settledOf}
 use Rattle.head_ready.specs.Generations.{slotAnchor}
 use Rattle.hash.specs.declared.Hash.{Hash}
-use Rattle.head_anchor.specs.declared.storage_memo.AnchorSlot.{AnchorSlot}
-use Rattle.head_anchor.specs.declared.storage_memo.ReadAnchor.{ReadAnchor}
-use Rattle.head_count.specs.declared.head_lifecycle.Counter.{Counter}
-use Rattle.head_count.specs.declared.head_lifecycle.HeadStats.{HeadStats}
-use Rattle.head_count.specs.declared.head_lifecycle.Seq.{Seq}
-use Rattle.head_current.specs.declared.head_lifecycle.CurrentHead.{CurrentHead}
-use Rattle.head_current.specs.declared.head_lifecycle.DeliverySlot.{DeliverySlot}
-use Rattle.head_current.specs.declared.head_lifecycle.HeadDelivery.{HeadDelivery}
-use Rattle.head_current.specs.declared.head_lifecycle.LastReport.{LastReport}
-use Rattle.head_life.specs.declared.head_lifecycle.HeadLifecycle.{HeadLifecycle}
+use Rattle.head_anchor.specs.declared.AnchorSlot.{AnchorSlot}
+use Rattle.head_anchor.specs.declared.ReadAnchor.{ReadAnchor}
+use Rattle.head_count.specs.declared.Counter.{Counter}
+use Rattle.head_count.specs.declared.HeadStats.{HeadStats}
+use Rattle.head_count.specs.declared.Seq.{Seq}
+use Rattle.head_current.specs.declared.CurrentHead.{CurrentHead}
+use Rattle.head_current.specs.declared.DeliverySlot.{DeliverySlot}
+use Rattle.head_current.specs.declared.HeadDelivery.{HeadDelivery}
+use Rattle.head_current.specs.declared.LastReport.{LastReport}
+use Rattle.head_life.specs.declared.HeadLifecycle.{HeadLifecycle}
 
 -- a replaced head's anchor becomes the superseded anchor
 unfoldable pub replaced : DeliverySlot → AnchorSlot → AnchorSlot

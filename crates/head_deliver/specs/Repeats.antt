@@ -4,9 +4,9 @@ use Rattle.hash.specs.Hashes.{sameHash}
 use Rattle.hash.specs.Logic.{both, if}
 use Rattle.head_anchor.specs.Anchors.{sameAnchor}
 use Rattle.hash.specs.declared.Hash.{Hash}
-use Rattle.head_anchor.specs.declared.storage_memo.ReadAnchor.{ReadAnchor}
-use Rattle.head_current.specs.declared.head_lifecycle.DeliverySlot.{DeliverySlot}
-use Rattle.head_current.specs.declared.head_lifecycle.HeadDelivery.{HeadDelivery}
+use Rattle.head_anchor.specs.declared.ReadAnchor.{ReadAnchor}
+use Rattle.head_current.specs.declared.DeliverySlot.{DeliverySlot}
+use Rattle.head_current.specs.declared.HeadDelivery.{HeadDelivery}
 use Rattle.head_deliver.specs.declared.head_lifecycle.Redelivery.{Redelivery}
 
 -- same anchor and parent hash

@@ -3,9 +3,9 @@ use Prim.Native.Nat.{suc, zero, ℕ}
 use mathlib.Core.List.{List, [], _∷_}
 use Rattle.head_attempt.specs.Waiters.{slotOf}
 use Rattle.head_life.specs.State.{noHead}
-use Rattle.head_attempt.specs.declared.head_lifecycle.Waiter.{Waiter}
-use Rattle.head_attempt.specs.declared.head_lifecycle.WaiterSlot.{WaiterSlot}
-use Rattle.head_driver.specs.declared.head_lifecycle.Driver.{Driver}
+use Rattle.head_attempt.specs.declared.Waiter.{Waiter}
+use Rattle.head_attempt.specs.declared.WaiterSlot.{WaiterSlot}
+use Rattle.head_driver.specs.declared.Driver.{Driver}
 
 abbrev pub free : ℕ → List WaiterSlot
 free zero = []

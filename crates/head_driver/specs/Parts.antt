@@ -1,13 +1,13 @@
 -- What the calls on a driver share: one definition for each function that their code goes through.
 use mathlib.Core.List.{List}
 use Rattle.head_attempt.specs.Waiters.{wake}
-use Rattle.head_attempt.specs.declared.head_lifecycle.HeadCompletion.{HeadCompletion}
-use Rattle.head_attempt.specs.declared.head_lifecycle.WaiterSlot.{WaiterSlot}
-use Rattle.head_current.specs.declared.head_lifecycle.CurrentHead.{CurrentHead}
-use Rattle.head_driver.specs.declared.head_lifecycle.Answer.{Answer}
-use Rattle.head_driver.specs.declared.head_lifecycle.Driver.{Driver}
-use Rattle.head_driver.specs.declared.head_lifecycle.Reply.{Reply}
-use Rattle.head_life.specs.declared.head_lifecycle.HeadLifecycle.{HeadLifecycle}
+use Rattle.head_attempt.specs.declared.HeadCompletion.{HeadCompletion}
+use Rattle.head_attempt.specs.declared.WaiterSlot.{WaiterSlot}
+use Rattle.head_current.specs.declared.CurrentHead.{CurrentHead}
+use Rattle.head_driver.specs.declared.Answer.{Answer}
+use Rattle.head_driver.specs.declared.Driver.{Driver}
+use Rattle.head_driver.specs.declared.Reply.{Reply}
+use Rattle.head_life.specs.declared.HeadLifecycle.{HeadLifecycle}
 
 abbrev pub replyOf : Driver → Answer → Reply
 replyOf d answer = record { driver = d; answer = answer }

@@ -1,51 +1,19 @@
-// From head_lifecycle.rs: `BalHeadDriver`, and what its calls answer. A call takes the driver by value and gives it back with its answer.
+// From head_lifecycle.rs: a new `BalHeadDriver`, the number of an answer, and what several calls share.
 ghost use mathlib.Core.Path.{_≡_};
 ghost use Rattle.head_anchor.specs.Lists.{outcome};
 ghost use Rattle.head_driver.specs.Answers.{outcomeSaid, said};
 ghost use Rattle.head_driver.specs.New.{new};
 ghost use Rattle.head_driver.specs.Parts.{endingWith, replyOf, wakeCurrent};
-use head_anchor::read_hub::Link;
-use head_anchor::storage_memo::AnchorSlot;
-use head_attempt::head_lifecycle::HeadCompletion;
-use head_attempt::head_lifecycle::Waiter;
-use head_attempt::head_lifecycle::WaiterSlot;
+use crate::Answer;
+use crate::Driver;
+use crate::Reply;
+use head_attempt::HeadCompletion;
+use head_attempt::Waiter;
+use head_attempt::WaiterSlot;
 use head_attempt::head_lifecycle::wake;
-use head_count::head_lifecycle::Epoch;
-use head_count::head_lifecycle::HeadStats;
-use head_count::head_lifecycle::Seq;
-use head_current::head_lifecycle::CurrentHead;
-use head_current::head_lifecycle::LastReport;
-use head_life::head_lifecycle::HeadLifecycle;
-use head_ready::head_lifecycle::HeadOutcome;
-use head_ready::head_lifecycle::HeadView;
-
-pub struct Driver {
-    pub life: HeadLifecycle,
-    pub waiters: [WaiterSlot; 16],
-}
-
-pub enum Answer {
-    Ticket(Seq),
-    Claimed(Epoch),
-    Done,
-    Outcome(HeadOutcome),
-    View(HeadView),
-    Parked,
-    Completion(HeadCompletion),
-    Link(Link),
-    Report(LastReport),
-    Stats(HeadStats),
-    Heads(AnchorSlot, AnchorSlot, AnchorSlot),
-    ListAtOdds,
-    WaiterOutOfRange,
-    WaiterTaken,
-    WaiterFree,
-}
-
-pub struct Reply {
-    pub driver: Driver,
-    pub answer: Answer,
-}
+use head_current::CurrentHead;
+use head_life::HeadLifecycle;
+use head_ready::HeadOutcome;
 
 pub(crate) fn outcome_number(outcome: HeadOutcome) -> u64
     ensures { λ r. ⌜ r ≡ outcomeSaid outcome .number ⌝ }

@@ -1,14 +1,14 @@
 -- Document 01, "What contracts say": a new driver's lifecycle; a lifecycle with one counter raised, or with another current head. The Rust: `HeadLifecycle`, of head_lifecycle.rs.
 use Rattle.head_count.specs.Counters.{epochOf, noneCounted, raise, recordView, seqOf}
 use Rattle.head_ready.specs.Generations.{isReady}
-use Rattle.head_anchor.specs.declared.storage_memo.AnchorSlot.{AnchorSlot}
-use Rattle.head_count.specs.declared.head_lifecycle.Counter.{Counter}
-use Rattle.head_count.specs.declared.head_lifecycle.Epoch.{Epoch}
-use Rattle.head_count.specs.declared.head_lifecycle.HeadStats.{HeadStats}
-use Rattle.head_current.specs.declared.head_lifecycle.CurrentHead.{CurrentHead}
-use Rattle.head_life.specs.declared.head_lifecycle.HeadLifecycle.{HeadLifecycle}
-use Rattle.head_ready.specs.declared.delta_snapshot.GenerationSlot.{GenerationSlot}
-use Rattle.head_ready.specs.declared.head_lifecycle.HeadReadiness.{HeadReadiness}
+use Rattle.head_anchor.specs.declared.AnchorSlot.{AnchorSlot}
+use Rattle.head_count.specs.declared.Counter.{Counter}
+use Rattle.head_count.specs.declared.Epoch.{Epoch}
+use Rattle.head_count.specs.declared.HeadStats.{HeadStats}
+use Rattle.head_current.specs.declared.CurrentHead.{CurrentHead}
+use Rattle.head_life.specs.declared.HeadLifecycle.{HeadLifecycle}
+use Rattle.head_ready.specs.declared.GenerationSlot.{GenerationSlot}
+use Rattle.head_ready.specs.declared.HeadReadiness.{HeadReadiness}
 
 -- no current head, no superseded anchor, nothing installed or previous, all counters 0
 unfoldable pub noHead : HeadLifecycle

@@ -1,24 +1,15 @@
-// From head_lifecycle.rs: `HeadLifecycle`, and those of its methods that several calls share. A call's own part of it stands in the call's crate.
+// From head_lifecycle.rs: those methods of `HeadLifecycle` that several calls share. A call's own part of it stands in the call's crate.
 ghost use mathlib.Core.Path.{_≡_};
 ghost use Rattle.head_life.specs.State.{counted, noHead, viewCounted, withHead};
-use head_anchor::storage_memo::AnchorSlot;
-use head_count::head_lifecycle::Counter;
-use head_count::head_lifecycle::Epoch;
-use head_count::head_lifecycle::HeadStats;
-use head_count::head_lifecycle::Seq;
-use head_current::head_lifecycle::CurrentHead;
-use head_ready::delta_snapshot::GenerationSlot;
-use head_ready::head_lifecycle::HeadReadiness;
-
-pub struct HeadLifecycle {
-    pub current: CurrentHead,
-    pub superseded: AnchorSlot,
-    pub installed: GenerationSlot,
-    pub previous: GenerationSlot,
-    pub seq: Seq,
-    pub claim_epoch: Epoch,
-    pub stats: HeadStats,
-}
+use crate::HeadLifecycle;
+use head_anchor::AnchorSlot;
+use head_count::Counter;
+use head_count::Epoch;
+use head_count::HeadStats;
+use head_count::Seq;
+use head_current::CurrentHead;
+use head_ready::GenerationSlot;
+use head_ready::HeadReadiness;
 
 impl HeadLifecycle {
     pub fn new() -> HeadLifecycle

@@ -2,13 +2,13 @@
 ghost use Rattle.head_driver.specs.Answers.{Replies};
 ghost use Rattle.head_link.specs.Link.{link};
 use hash::Hash;
-use head_anchor::read_hub::Link;
+use head_anchor::AnchorSlot;
+use head_anchor::Link;
+use head_anchor::ReadAnchor;
 use head_anchor::read_hub::classify_link;
-use head_anchor::storage_memo::AnchorSlot;
-use head_anchor::storage_memo::ReadAnchor;
-use head_driver::head_lifecycle::Answer;
-use head_driver::head_lifecycle::Driver;
-use head_driver::head_lifecycle::Reply;
+use head_driver::Answer;
+use head_driver::Driver;
+use head_driver::Reply;
 use head_driver::head_lifecycle::answered;
 
 pub fn link(d: Driver, parent: AnchorSlot, child: ReadAnchor, parent_hash: Hash) -> Reply

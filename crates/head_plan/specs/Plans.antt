@@ -4,12 +4,12 @@ use Rattle.head_anchor.specs.Anchors.{holds, sameAnchor}
 use Rattle.head_current.specs.Heads.{delivery, ticketOf}
 use Rattle.head_ready.specs.Generations.{slotAnchor}
 use Rattle.head_ready.specs.Refusals.{refused-11, refused-12, refused-13}
-use Rattle.head_anchor.specs.declared.storage_memo.AnchorSlot.{AnchorSlot}
-use Rattle.head_anchor.specs.declared.storage_memo.ReadAnchor.{ReadAnchor}
-use Rattle.head_current.specs.declared.head_lifecycle.DeliverySlot.{DeliverySlot}
-use Rattle.head_current.specs.declared.head_lifecycle.HeadDelivery.{HeadDelivery}
-use Rattle.head_current.specs.declared.head_lifecycle.HeadTicket.{HeadTicket}
-use Rattle.head_life.specs.declared.head_lifecycle.HeadLifecycle.{HeadLifecycle}
+use Rattle.head_anchor.specs.declared.AnchorSlot.{AnchorSlot}
+use Rattle.head_anchor.specs.declared.ReadAnchor.{ReadAnchor}
+use Rattle.head_current.specs.declared.DeliverySlot.{DeliverySlot}
+use Rattle.head_current.specs.declared.HeadDelivery.{HeadDelivery}
+use Rattle.head_current.specs.declared.HeadTicket.{HeadTicket}
+use Rattle.head_life.specs.declared.HeadLifecycle.{HeadLifecycle}
 use Rattle.head_plan.specs.declared.head_lifecycle.ApplyPlan.{ApplyPlan}
 
 -- 11 if the ticket's anchor or seq is not the current head's, naming the current anchor; 12 if the list's anchor is not the head's, naming both; 13 if the head is installed.

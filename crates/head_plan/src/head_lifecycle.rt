@@ -1,15 +1,15 @@
 // From head_lifecycle.rs: `ApplyPlan` and `HeadLifecycle::plan_apply`.
 ghost use mathlib.Core.Path.{_≡_};
 ghost use Rattle.head_plan.specs.Plans.{planApply, planAt, planHeld};
-use head_anchor::storage_memo::AnchorSlot;
-use head_anchor::storage_memo::ReadAnchor;
+use head_anchor::AnchorSlot;
+use head_anchor::ReadAnchor;
 use head_anchor::storage_memo::holds;
 use head_anchor::storage_memo::same_anchor;
-use head_current::head_lifecycle::DeliverySlot;
-use head_current::head_lifecycle::HeadDelivery;
-use head_current::head_lifecycle::HeadTicket;
-use head_life::head_lifecycle::HeadLifecycle;
-use head_ready::head_lifecycle::HeadOutcome;
+use head_current::DeliverySlot;
+use head_current::HeadDelivery;
+use head_current::HeadTicket;
+use head_life::HeadLifecycle;
+use head_ready::HeadOutcome;
 
 // A refusal that is counted as discarded stands apart from one that is not.
 pub enum ApplyPlan {

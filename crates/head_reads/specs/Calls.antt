@@ -4,9 +4,9 @@ use Rattle.head_current.specs.Heads.{anchorOf, delivery}
 use Rattle.head_driver.specs.Parts.{replyOf}
 use Rattle.head_reads.specs.Reports.{lastReport}
 use Rattle.head_ready.specs.Generations.{slotAnchor}
-use Rattle.head_driver.specs.declared.head_lifecycle.Answer.{Answer}
-use Rattle.head_driver.specs.declared.head_lifecycle.Driver.{Driver}
-use Rattle.head_driver.specs.declared.head_lifecycle.Reply.{Reply}
+use Rattle.head_driver.specs.declared.Answer.{Answer}
+use Rattle.head_driver.specs.declared.Driver.{Driver}
+use Rattle.head_driver.specs.declared.Reply.{Reply}
 
 -- `(report R)`, R being what the current head's own apply gave, else `none`
 unfoldable pub report : Driver → Reply

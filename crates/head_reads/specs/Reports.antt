@@ -1,6 +1,6 @@
 -- Document 01, "Lines": the report that `report` answers. The Rust: `CurrentHead::report`, of head_lifecycle.rs.
-use Rattle.head_current.specs.declared.head_lifecycle.CurrentHead.{CurrentHead}
-use Rattle.head_current.specs.declared.head_lifecycle.LastReport.{LastReport}
+use Rattle.head_current.specs.declared.CurrentHead.{CurrentHead}
+use Rattle.head_current.specs.declared.LastReport.{LastReport}
 
 -- what the current head's own apply gave, else none: `CurrentHead::report`
 unfoldable pub lastReport : CurrentHead → LastReport

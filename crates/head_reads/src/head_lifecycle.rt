@@ -3,11 +3,11 @@ ghost use mathlib.Core.Path.{_≡_};
 ghost use Rattle.head_driver.specs.Answers.{Replies};
 ghost use Rattle.head_reads.specs.Calls.{heads, report, stats};
 ghost use Rattle.head_reads.specs.Reports.{lastReport};
-use head_current::head_lifecycle::CurrentHead;
-use head_current::head_lifecycle::LastReport;
-use head_driver::head_lifecycle::Answer;
-use head_driver::head_lifecycle::Driver;
-use head_driver::head_lifecycle::Reply;
+use head_current::CurrentHead;
+use head_current::LastReport;
+use head_driver::Answer;
+use head_driver::Driver;
+use head_driver::Reply;
 use head_driver::head_lifecycle::answered;
 
 pub(crate) fn last_report(current: CurrentHead) -> LastReport

@@ -1,11 +1,11 @@
 -- Document 01, "Lifecycle": the installed and the previous generation, and their readiness. The Rust: the cache's slot, of delta_snapshot.rs, and `InstalledGeneration`,
 -- `PreviousGeneration`, `settled_readiness`, `record_settle`, of head_lifecycle.rs.
 use mathlib.Core.Bool.{Bool, false, true}
-use Rattle.head_anchor.specs.declared.read_hub.CarryOutcome.{CarryOutcome}
-use Rattle.head_anchor.specs.declared.storage_memo.AnchorSlot.{AnchorSlot}
-use Rattle.head_ready.specs.declared.delta_snapshot.GenerationSlot.{GenerationSlot}
-use Rattle.head_ready.specs.declared.head_lifecycle.HeadCold.{HeadCold}
-use Rattle.head_ready.specs.declared.head_lifecycle.HeadReadiness.{HeadReadiness}
+use Rattle.head_anchor.specs.declared.CarryOutcome.{CarryOutcome}
+use Rattle.head_anchor.specs.declared.AnchorSlot.{AnchorSlot}
+use Rattle.head_ready.specs.declared.GenerationSlot.{GenerationSlot}
+use Rattle.head_ready.specs.declared.HeadCold.{HeadCold}
+use Rattle.head_ready.specs.declared.HeadReadiness.{HeadReadiness}
 
 -- the anchor of what is installed, or none: `DeltaSnapshotCache::anchor`
 unfoldable pub slotAnchor : GenerationSlot → AnchorSlot

@@ -1,6 +1,6 @@
 -- Document 01, "Turned away by the state": the numbers of a ticket that the state rejects. The Rust: `HeadOutcome`, of head_lifecycle.rs.
-use Rattle.head_anchor.specs.declared.storage_memo.ReadAnchor.{ReadAnchor}
-use Rattle.head_ready.specs.declared.head_lifecycle.HeadOutcome.{HeadOutcome}
+use Rattle.head_anchor.specs.declared.ReadAnchor.{ReadAnchor}
+use Rattle.head_ready.specs.declared.HeadOutcome.{HeadOutcome}
 
 -- 11 superseded: names the ticket's anchor where there is no current head, else the current anchor
 abbrev pub refused-11 : ReadAnchor → HeadOutcome

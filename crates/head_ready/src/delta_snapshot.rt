@@ -1,23 +1,9 @@
-// From delta_snapshot.rs: the installed slot. One generation stands for the cache's slot and for head_lifecycle.rs's `InstalledGeneration` and
-// `PreviousGeneration`, since only an apply writes them.
+// From delta_snapshot.rs: what the installed slot tells, and what becomes of it.
 ghost use mathlib.Core.Path.{_≡_};
 ghost use Rattle.head_ready.specs.Generations.{slotAnchor, previousAfter};
-use crate::head_lifecycle::HeadReadiness;
-use head_anchor::read_hub::CarryOutcome;
-use head_anchor::storage_memo::AnchorSlot;
-use head_anchor::storage_memo::ReadAnchor;
-
-// `handle` names the host's hub.
-pub struct Generation {
-    pub anchor: ReadAnchor,
-    pub handle: u64,
-    pub readiness: HeadReadiness,
-}
-
-pub enum GenerationSlot {
-    Nothing,
-    Held(Generation),
-}
+use crate::GenerationSlot;
+use head_anchor::AnchorSlot;
+use head_anchor::CarryOutcome;
 
 impl GenerationSlot {
     // The Rust's `DeltaSnapshotCache::anchor`.

@@ -1,46 +1,10 @@
-// From head_lifecycle.rs: `HeadCold`, `HeadReadiness`, `HeadView` with its source, `settled_readiness`.
+// From head_lifecycle.rs: `settled_readiness`, and whether a readiness is ready.
 ghost use mathlib.Core.Path.{_≡_};
 ghost use Rattle.head_anchor.specs.Lists.{outcome};
 ghost use Rattle.head_ready.specs.Generations.{isReady, settledReadiness};
-use head_anchor::bal_prefetch::BalSkip;
-use head_anchor::read_hub::CarryOutcome;
-use head_anchor::read_hub::Link;
-use head_anchor::storage_memo::ReadAnchor;
-
-pub enum HeadCold {
-    Unprepared,
-    Superseded,
-    Undelivered,
-    Abandoned,
-    Settled(Link, BalSkip),
-}
-
-pub enum HeadReadiness {
-    Ready,
-    Cold(HeadCold),
-}
-
-// Where a view's handle comes from.
-pub enum Source {
-    Installed,
-    Provisional,
-    Previous,
-    Spare,
-}
-
-pub struct HeadView {
-    pub source: Source,
-    pub handle: u64,
-    pub readiness: HeadReadiness,
-}
-
-pub enum HeadOutcome {
-    Settled(CarryOutcome),
-    AlreadySettled,
-    InFlight,
-    Superseded(ReadAnchor),
-    Foreign(ReadAnchor, ReadAnchor),
-}
+use crate::HeadCold;
+use crate::HeadReadiness;
+use head_anchor::CarryOutcome;
 
 pub fn settled_readiness(outcome: CarryOutcome) -> HeadReadiness
     ensures { λ r. ⌜ r ≡ settledReadiness outcome ⌝ }

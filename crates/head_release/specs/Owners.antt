@@ -2,9 +2,9 @@
 use mathlib.Core.Bool.{Bool, false}
 use Rattle.hash.specs.Logic.{both}
 use Rattle.head_count.specs.Counters.{sameEpoch, sameSeq}
-use Rattle.head_current.specs.declared.head_lifecycle.CurrentHead.{CurrentHead}
-use Rattle.head_current.specs.declared.head_lifecycle.PrepareClaim.{PrepareClaim}
-use Rattle.head_current.specs.declared.head_lifecycle.UnsettledHead.{UnsettledHead}
+use Rattle.head_current.specs.declared.CurrentHead.{CurrentHead}
+use Rattle.head_current.specs.declared.PrepareClaim.{PrepareClaim}
+use Rattle.head_current.specs.declared.UnsettledHead.{UnsettledHead}
 
 -- equal seq and epoch
 unfoldable pub owns : UnsettledHead → PrepareClaim → Bool

@@ -3,11 +3,11 @@ use Rattle.hash.specs.Logic.{if}
 use Rattle.head_driver.specs.Parts.{endingWith, replyOf}
 use Rattle.head_release.specs.Owners.{ownedBy}
 use Rattle.head_release.specs.Released.{released}
-use Rattle.head_attempt.specs.declared.head_lifecycle.HeadCompletion.{HeadCompletion}
-use Rattle.head_current.specs.declared.head_lifecycle.PrepareClaim.{PrepareClaim}
-use Rattle.head_driver.specs.declared.head_lifecycle.Answer.{Answer}
-use Rattle.head_driver.specs.declared.head_lifecycle.Driver.{Driver}
-use Rattle.head_driver.specs.declared.head_lifecycle.Reply.{Reply}
+use Rattle.head_attempt.specs.declared.HeadCompletion.{HeadCompletion}
+use Rattle.head_current.specs.declared.PrepareClaim.{PrepareClaim}
+use Rattle.head_driver.specs.declared.Answer.{Answer}
+use Rattle.head_driver.specs.declared.Driver.{Driver}
+use Rattle.head_driver.specs.declared.Reply.{Reply}
 
 -- `release` acts only on preparing with equal seq and epoch: abandoned, back to unclaimed. Otherwise nothing changes.
 unfoldable pub release : Driver → PrepareClaim → Reply

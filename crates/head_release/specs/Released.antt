@@ -2,9 +2,9 @@
 use Rattle.head_attempt.specs.Attempts.{publish}
 use Rattle.head_current.specs.Parts.{withAttempt}
 use Rattle.head_life.specs.State.{withHead}
-use Rattle.head_attempt.specs.declared.head_lifecycle.HeadCompletion.{HeadCompletion}
-use Rattle.head_current.specs.declared.head_lifecycle.CurrentHead.{CurrentHead}
-use Rattle.head_life.specs.declared.head_lifecycle.HeadLifecycle.{HeadLifecycle}
+use Rattle.head_attempt.specs.declared.HeadCompletion.{HeadCompletion}
+use Rattle.head_current.specs.declared.CurrentHead.{CurrentHead}
+use Rattle.head_life.specs.declared.HeadLifecycle.{HeadLifecycle}
 
 -- release: abandoned, back to unclaimed
 unfoldable pub releasedHead : CurrentHead → CurrentHead

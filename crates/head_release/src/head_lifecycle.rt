@@ -6,16 +6,16 @@ ghost use Rattle.head_release.specs.Owners.{ownedBy, owns};
 ghost use Rattle.head_release.specs.Release.{release};
 ghost use Rattle.head_release.specs.Released.{released, releasedHead};
 use hash::both;
-use head_attempt::head_lifecycle::HeadCompletion;
-use head_current::head_lifecycle::CurrentHead;
-use head_current::head_lifecycle::PrepareClaim;
-use head_current::head_lifecycle::UnsettledHead;
-use head_driver::head_lifecycle::Answer;
-use head_driver::head_lifecycle::Driver;
-use head_driver::head_lifecycle::Reply;
+use head_attempt::HeadCompletion;
+use head_current::CurrentHead;
+use head_current::PrepareClaim;
+use head_current::UnsettledHead;
+use head_driver::Answer;
+use head_driver::Driver;
+use head_driver::Reply;
 use head_driver::head_lifecycle::answered;
 use head_driver::head_lifecycle::ending;
-use head_life::head_lifecycle::HeadLifecycle;
+use head_life::HeadLifecycle;
 
 pub(crate) fn owned_unsettled(u: UnsettledHead, claim: PrepareClaim) -> bool
     ensures { λ r. ⌜ r ≡ owns u claim ⌝ }

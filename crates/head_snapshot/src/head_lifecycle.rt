@@ -4,22 +4,22 @@ ghost use Rattle.head_driver.specs.Answers.{Replies};
 ghost use Rattle.head_snapshot.specs.Parts.{viewed};
 ghost use Rattle.head_snapshot.specs.Snapshot.{snapshot};
 ghost use Rattle.head_snapshot.specs.Views.{currentView, generationView, provisionalView, spareReason, spareView, view};
-use head_anchor::storage_memo::AnchorSlot;
-use head_anchor::storage_memo::ReadAnchor;
+use head_anchor::AnchorSlot;
+use head_anchor::ReadAnchor;
 use head_anchor::storage_memo::holds;
 use head_anchor::storage_memo::same_anchor;
-use head_current::head_lifecycle::CurrentHead;
-use head_current::head_lifecycle::UnsettledHead;
-use head_driver::head_lifecycle::Answer;
-use head_driver::head_lifecycle::Driver;
-use head_driver::head_lifecycle::Reply;
+use head_current::CurrentHead;
+use head_current::UnsettledHead;
+use head_driver::Answer;
+use head_driver::Driver;
+use head_driver::Reply;
 use head_driver::head_lifecycle::answered;
-use head_life::head_lifecycle::HeadLifecycle;
-use head_ready::delta_snapshot::GenerationSlot;
-use head_ready::head_lifecycle::HeadCold;
-use head_ready::head_lifecycle::HeadReadiness;
-use head_ready::head_lifecycle::HeadView;
-use head_ready::head_lifecycle::Source;
+use head_life::HeadLifecycle;
+use head_ready::GenerationSlot;
+use head_ready::HeadCold;
+use head_ready::HeadReadiness;
+use head_ready::HeadView;
+use head_ready::Source;
 
 pub(crate) fn spare_reason(superseded: bool) -> HeadCold
     ensures { λ r. ⌜ r ≡ spareReason superseded ⌝ }

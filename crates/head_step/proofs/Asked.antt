@@ -7,15 +7,15 @@ use Rattle.head_anchor.specs.Lists.{asPrepared}
 use Rattle.head_apply.specs.Apply.{apply}
 use Rattle.head_driver.specs.Parts.{replyOf}
 use Rattle.head_waits.specs.Calls.{resume, wait}
-use Rattle.head_driver.specs.declared.head_lifecycle.Answer.{Answer}
-use Rattle.head_driver.specs.declared.head_lifecycle.Driver.{Driver}
-use Rattle.head_driver.specs.declared.head_lifecycle.Reply.{Reply}
+use Rattle.head_driver.specs.declared.Answer.{Answer}
+use Rattle.head_driver.specs.declared.Driver.{Driver}
+use Rattle.head_driver.specs.declared.Reply.{Reply}
 use Rattle.head_step.specs.Dispatch.{dispatch}
 use Rattle.head_call.specs.Tests.{listRefusal, waiterRefusal}
 use Rattle.head_call.specs.Inputs.{inputRefusal}
 use Rattle.head_step.specs.Steps.{step, stepPast}
-use Rattle.head_call.specs.declared.head_lifecycle.Call.{Call}
-use Rattle.head_call.specs.declared.head_lifecycle.InputRefusal.{InputRefusal}
+use Rattle.head_call.specs.declared.Call.{Call}
+use Rattle.head_call.specs.declared.InputRefusal.{InputRefusal}
 
 list-asked : (t : Bool) (d : Driver) (call : Call) (r : Reply) → dispatch d call ≡ if t r (replyOf d Answer.ListAtOdds) → stepPast (if t InputRefusal.Nothing InputRefusal.ListAtOdds) d call ≡ dispatch d call
 list-asked true d call r e = refl

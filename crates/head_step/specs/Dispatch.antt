@@ -8,9 +8,9 @@ use Rattle.head_reads.specs.Calls.{heads, report, stats}
 use Rattle.head_release.specs.Release.{release}
 use Rattle.head_snapshot.specs.Snapshot.{snapshot}
 use Rattle.head_waits.specs.Calls.{resume, wait}
-use Rattle.head_call.specs.declared.head_lifecycle.Call.{Call}
-use Rattle.head_driver.specs.declared.head_lifecycle.Driver.{Driver}
-use Rattle.head_driver.specs.declared.head_lifecycle.Reply.{Reply}
+use Rattle.head_call.specs.declared.Call.{Call}
+use Rattle.head_driver.specs.declared.Driver.{Driver}
+use Rattle.head_driver.specs.declared.Reply.{Reply}
 
 unfoldable pub dispatch : Driver → Call → Reply
 dispatch d (Call.Deliver a p cold) = deliver d a p cold

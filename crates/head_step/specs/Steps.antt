@@ -2,11 +2,11 @@
 use Rattle.head_call.specs.Inputs.{inputRefusal}
 use Rattle.head_driver.specs.Parts.{replyOf}
 use Rattle.head_step.specs.Dispatch.{dispatch}
-use Rattle.head_call.specs.declared.head_lifecycle.Call.{Call}
-use Rattle.head_call.specs.declared.head_lifecycle.InputRefusal.{InputRefusal}
-use Rattle.head_driver.specs.declared.head_lifecycle.Answer.{Answer}
-use Rattle.head_driver.specs.declared.head_lifecycle.Driver.{Driver}
-use Rattle.head_driver.specs.declared.head_lifecycle.Reply.{Reply}
+use Rattle.head_call.specs.declared.Call.{Call}
+use Rattle.head_call.specs.declared.InputRefusal.{InputRefusal}
+use Rattle.head_driver.specs.declared.Answer.{Answer}
+use Rattle.head_driver.specs.declared.Driver.{Driver}
+use Rattle.head_driver.specs.declared.Reply.{Reply}
 
 abbrev pub stepPast : InputRefusal → Driver → Call → Reply
 stepPast InputRefusal.Nothing d call = dispatch d call

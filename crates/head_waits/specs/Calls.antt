@@ -4,10 +4,10 @@ use lib.Dec.{ltb}
 use Rattle.hash.specs.Logic.{if}
 use Rattle.head_driver.specs.Parts.{replyOf}
 use Rattle.head_waits.specs.Parts.{resumeAs, waitAs, waiterAt}
-use Rattle.head_anchor.specs.declared.storage_memo.ReadAnchor.{ReadAnchor}
-use Rattle.head_driver.specs.declared.head_lifecycle.Answer.{Answer}
-use Rattle.head_driver.specs.declared.head_lifecycle.Driver.{Driver}
-use Rattle.head_driver.specs.declared.head_lifecycle.Reply.{Reply}
+use Rattle.head_anchor.specs.declared.ReadAnchor.{ReadAnchor}
+use Rattle.head_driver.specs.declared.Answer.{Answer}
+use Rattle.head_driver.specs.declared.Driver.{Driver}
+use Rattle.head_driver.specs.declared.Reply.{Reply}
 
 -- `wait`: 3 if the number is above 15; 15 if the waiter is not free. It parks the waiter if the current head is preparing at that anchor, else answers a view at once.
 unfoldable pub wait : Driver → ℕ → ReadAnchor → ℕ → Reply

@@ -11,17 +11,17 @@ use Rattle.head_driver.specs.Parts.{replyOf}
 use Rattle.head_ready.specs.Generations.{isReady}
 use Rattle.head_snapshot.specs.Parts.{viewed}
 use Rattle.head_snapshot.specs.Views.{view, viewOf}
-use Rattle.head_anchor.specs.declared.storage_memo.ReadAnchor.{ReadAnchor}
-use Rattle.head_attempt.specs.declared.head_lifecycle.Waiter.{Waiter}
-use Rattle.head_attempt.specs.declared.head_lifecycle.WaiterSlot.{WaiterSlot}
-use Rattle.head_current.specs.declared.head_lifecycle.CurrentHead.{CurrentHead}
-use Rattle.head_driver.specs.declared.head_lifecycle.Answer.{Answer}
-use Rattle.head_driver.specs.declared.head_lifecycle.Driver.{Driver}
-use Rattle.head_driver.specs.declared.head_lifecycle.Reply.{Reply}
-use Rattle.head_ready.specs.declared.head_lifecycle.HeadCold.{HeadCold}
-use Rattle.head_ready.specs.declared.head_lifecycle.HeadReadiness.{HeadReadiness}
-use Rattle.head_ready.specs.declared.head_lifecycle.HeadView.{HeadView}
-use Rattle.head_ready.specs.declared.head_lifecycle.Source.{Source}
+use Rattle.head_anchor.specs.declared.ReadAnchor.{ReadAnchor}
+use Rattle.head_attempt.specs.declared.Waiter.{Waiter}
+use Rattle.head_attempt.specs.declared.WaiterSlot.{WaiterSlot}
+use Rattle.head_current.specs.declared.CurrentHead.{CurrentHead}
+use Rattle.head_driver.specs.declared.Answer.{Answer}
+use Rattle.head_driver.specs.declared.Driver.{Driver}
+use Rattle.head_driver.specs.declared.Reply.{Reply}
+use Rattle.head_ready.specs.declared.HeadCold.{HeadCold}
+use Rattle.head_ready.specs.declared.HeadReadiness.{HeadReadiness}
+use Rattle.head_ready.specs.declared.HeadView.{HeadView}
+use Rattle.head_ready.specs.declared.Source.{Source}
 
 -- `unprepared` shown as `abandoned`
 unfoldable pub unownedReason : HeadCold → HeadCold

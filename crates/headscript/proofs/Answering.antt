@@ -12,7 +12,7 @@ use mir.Val.{Fits}
 use Rattle.script.proofs.Cuttings.{taken-append}
 use Rattle.script.specs.Feeds.{Reading, TakesSome, allTaken, reading}
 use Rattle.script.specs.declared.Fed.{Fed}
-use Rattle.head_driver.specs.declared.head_lifecycle.Driver.{Driver}
+use Rattle.head_driver.specs.declared.Driver.{Driver}
 use Rattle.headscript.specs.Reads.{AnswersAll, AnswersSome, MovesOn}
 
 positive : (n : ℕ) → (n ≡ 0 → ⊥) → 0 < n

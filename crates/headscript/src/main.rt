@@ -4,7 +4,7 @@ ghost use mathlib.Core.Bool.{false};
 ghost use mathlib.Core.Path.{_≡_};
 ghost use Rattle.script.specs.Feeds.{reading};
 ghost use Rattle.headscript.specs.Reads.{AnswersAll, AnswersSome, MovesOn};
-use head_driver::head_lifecycle::Driver;
+use head_driver::Driver;
 use head_driver::head_lifecycle::new;
 use libc::STDIN_FILENO;
 use libc::STDOUT_FILENO;

@@ -16,15 +16,15 @@ use Rattle.head_call.specs.Inputs.{inputRefusal}
 use Rattle.head_step.specs.Steps.{step}
 use Rattle.head_snapshot.specs.Views.{generationView, view, viewOf}
 use Rattle.hash.specs.declared.Hash.{Hash}
-use Rattle.head_anchor.specs.declared.storage_memo.ReadAnchor.{ReadAnchor}
+use Rattle.head_anchor.specs.declared.ReadAnchor.{ReadAnchor}
 use Rattle.head_deliver.specs.declared.head_lifecycle.Redelivery.{Redelivery}
-use Rattle.head_driver.specs.declared.head_lifecycle.Answer.{Answer}
-use Rattle.head_driver.specs.declared.head_lifecycle.Driver.{Driver}
-use Rattle.head_ready.specs.declared.delta_snapshot.Generation.{Generation}
-use Rattle.head_ready.specs.declared.delta_snapshot.GenerationSlot.{GenerationSlot}
-use Rattle.head_life.specs.declared.head_lifecycle.HeadLifecycle.{HeadLifecycle}
-use Rattle.head_ready.specs.declared.head_lifecycle.HeadView.{HeadView}
-use Rattle.head_ready.specs.declared.head_lifecycle.Source.{Source}
+use Rattle.head_driver.specs.declared.Answer.{Answer}
+use Rattle.head_driver.specs.declared.Driver.{Driver}
+use Rattle.head_ready.specs.declared.Generation.{Generation}
+use Rattle.head_ready.specs.declared.GenerationSlot.{GenerationSlot}
+use Rattle.head_life.specs.declared.HeadLifecycle.{HeadLifecycle}
+use Rattle.head_ready.specs.declared.HeadView.{HeadView}
+use Rattle.head_ready.specs.declared.Source.{Source}
 use Rattle.redelivered.specs.Statements.{ShownAsSettled}
 
 -- whether the delivery repeats the current head or is new, what is installed stays

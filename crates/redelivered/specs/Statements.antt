@@ -4,12 +4,12 @@ use mathlib.Core.Path.{_≡_}
 use Rattle.head_step.specs.Steps.{step}
 use Rattle.head_snapshot.specs.Views.{viewOf}
 use Rattle.hash.specs.declared.Hash.{Hash}
-use Rattle.head_driver.specs.declared.head_lifecycle.Answer.{Answer}
-use Rattle.head_driver.specs.declared.head_lifecycle.Driver.{Driver}
-use Rattle.head_ready.specs.declared.delta_snapshot.Generation.{Generation}
-use Rattle.head_ready.specs.declared.delta_snapshot.GenerationSlot.{GenerationSlot}
-use Rattle.head_ready.specs.declared.head_lifecycle.Source.{Source}
-use Rattle.head_call.specs.declared.head_lifecycle.Call.{Call}
+use Rattle.head_driver.specs.declared.Answer.{Answer}
+use Rattle.head_driver.specs.declared.Driver.{Driver}
+use Rattle.head_ready.specs.declared.Generation.{Generation}
+use Rattle.head_ready.specs.declared.GenerationSlot.{GenerationSlot}
+use Rattle.head_ready.specs.declared.Source.{Source}
+use Rattle.head_call.specs.declared.Call.{Call}
 
 -- A block that is installed and is delivered again, under whatever parent hash, is shown as it settled: from the installed generation, its handle, its readiness. A head that
 -- settled cold stays cold with its reason.

@@ -17,7 +17,7 @@ use Rattle.text.specs.Rests.{readNumber}
 use Rattle.text.specs.Same.{sameText}
 use Rattle.text.specs.Writes.{Wrote}
 use Rattle.text.proofs.Writes.{then}
-use Rattle.head_driver.specs.declared.head_lifecycle.Driver.{Driver}
+use Rattle.head_driver.specs.declared.Driver.{Driver}
 use Rattle.script.specs.declared.Printed.{Printed}
 use Rattle.text.specs.declared.place.Place.{Place}
 use Rattle.replay.specs.Recordings.{Collects, TakesAnswer, TakesRecord, afterAnswer, afterCall, callCompared, markOf, numberOf, recorded, runBegun, sameFront}

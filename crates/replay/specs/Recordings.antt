@@ -13,10 +13,10 @@ use Rattle.text.specs.Places.{here}
 use Rattle.text.specs.Rests.{readNumber}
 use Rattle.text.specs.Same.{sameText}
 use Rattle.text.specs.Writes.{Wrote}
-use Rattle.head_anchor.specs.declared.storage_memo.AnchorSlot.{AnchorSlot}
-use Rattle.head_current.specs.declared.head_lifecycle.CurrentHead.{CurrentHead}
-use Rattle.head_driver.specs.declared.head_lifecycle.Driver.{Driver}
-use Rattle.head_ready.specs.declared.delta_snapshot.GenerationSlot.{GenerationSlot}
+use Rattle.head_anchor.specs.declared.AnchorSlot.{AnchorSlot}
+use Rattle.head_current.specs.declared.CurrentHead.{CurrentHead}
+use Rattle.head_driver.specs.declared.Driver.{Driver}
+use Rattle.head_ready.specs.declared.GenerationSlot.{GenerationSlot}
 use Rattle.replay.specs.declared.Replay.{Replay}
 use Rattle.replay.specs.declared.Standing.{Standing}
 use Rattle.replay.specs.declared.Tally.{Tally}

@@ -19,11 +19,11 @@ use Rattle.script_call.specs.Texts.{callText}
 use Rattle.text.specs.Ascii.{ascii}
 use Rattle.text.specs.Decimals.{decimal, decimalOn}
 use Rattle.hash.specs.declared.Hash.{Hash}
-use Rattle.head_anchor.specs.declared.bal_prefetch.BalSkip.{BalSkip}
-use Rattle.head_anchor.specs.declared.storage_memo.AnchorSlot.{AnchorSlot}
-use Rattle.head_anchor.specs.declared.storage_memo.BlockHash.{BlockHash}
-use Rattle.head_anchor.specs.declared.storage_memo.ReadAnchor.{ReadAnchor}
-use Rattle.head_call.specs.declared.head_lifecycle.Call.{Call}
+use Rattle.head_anchor.specs.declared.BalSkip.{BalSkip}
+use Rattle.head_anchor.specs.declared.AnchorSlot.{AnchorSlot}
+use Rattle.head_anchor.specs.declared.BlockHash.{BlockHash}
+use Rattle.head_anchor.specs.declared.ReadAnchor.{ReadAnchor}
+use Rattle.head_call.specs.declared.Call.{Call}
 use Rattle.rules.specs.Runs.{Bytes, OneLine}
 
 -- a space or above, and of seven bits

@@ -6,8 +6,8 @@ use lib.ListN.{drop, length, take}
 use borrow.Author.Tests.{le-ltb}
 use Rattle.alike.specs.Canon.{canon}
 use Rattle.driver.specs.Turns.{sheetAfter, sheetAnswer, turnOf}
-use Rattle.head_attempt.specs.declared.head_lifecycle.Waiter.{Waiter}
-use Rattle.head_attempt.specs.declared.head_lifecycle.WaiterSlot.{WaiterSlot}
+use Rattle.head_attempt.specs.declared.Waiter.{Waiter}
+use Rattle.head_attempt.specs.declared.WaiterSlot.{WaiterSlot}
 use Rattle.script_call.proofs.Back.{sheet-back}
 use Rattle.script_call.specs.Texts.{sheetCallText}
 use Rattle.script_sheet.specs.Sheets.{lifeLines, linesOf, sheetText}
@@ -16,10 +16,10 @@ use Rattle.value_text.specs.Texts.{anchorText}
 use Rattle.sheet_lines.specs.Lines.{countLine, currentLine, generationText, installedLine, previousLine, supersededLine, waiterLine, waiterLines}
 use Rattle.text.specs.Ascii.{ascii}
 use Rattle.text.specs.Decimals.{decimal}
-use Rattle.head_anchor.specs.declared.storage_memo.ReadAnchor.{ReadAnchor}
-use Rattle.head_driver.specs.declared.head_lifecycle.Driver.{Driver}
-use Rattle.head_ready.specs.declared.delta_snapshot.GenerationSlot.{GenerationSlot}
-use Rattle.head_life.specs.declared.head_lifecycle.HeadLifecycle.{HeadLifecycle}
+use Rattle.head_anchor.specs.declared.ReadAnchor.{ReadAnchor}
+use Rattle.head_driver.specs.declared.Driver.{Driver}
+use Rattle.head_ready.specs.declared.GenerationSlot.{GenerationSlot}
+use Rattle.head_life.specs.declared.HeadLifecycle.{HeadLifecycle}
 use Rattle.script_call.specs.declared.LineCall.{LineCall}
 use Rattle.value_text.specs.declared.page.Page.{Page}
 use Rattle.rules.specs.Sheets.{onto, sheetInto, toLastFeed, wroteOf}

@@ -39,27 +39,27 @@ use Rattle.hash.specs.Ranges.{Fits}
 use Rattle.head_anchor.specs.Ranges.{AnchorFits, OutcomeFits, SkipFits, SlotFits}
 use Rattle.head_current.specs.Ranges.{DeliveryFits, HeadFits, ReportFits, UnsettledFits}
 use Rattle.hash.specs.declared.Hash.{Hash}
-use Rattle.head_anchor.specs.declared.bal_prefetch.BalSkip.{BalSkip}
-use Rattle.head_anchor.specs.declared.storage_memo.AnchorSlot.{AnchorSlot}
-use Rattle.head_anchor.specs.declared.storage_memo.ReadAnchor.{ReadAnchor}
-use Rattle.head_count.specs.declared.head_lifecycle.Epoch.{Epoch}
-use Rattle.head_attempt.specs.declared.head_lifecycle.Waiter.{Waiter}
-use Rattle.head_current.specs.declared.head_lifecycle.CurrentHead.{CurrentHead}
-use Rattle.head_current.specs.declared.head_lifecycle.DeliverySlot.{DeliverySlot}
-use Rattle.head_current.specs.declared.head_lifecycle.HeadDelivery.{HeadDelivery}
-use Rattle.head_current.specs.declared.head_lifecycle.HeadTicket.{HeadTicket}
-use Rattle.head_current.specs.declared.head_lifecycle.UnsettledHead.{UnsettledHead}
-use Rattle.head_driver.specs.declared.head_lifecycle.Driver.{Driver}
-use Rattle.head_driver.specs.declared.head_lifecycle.Reply.{Reply}
-use Rattle.head_ready.specs.declared.delta_snapshot.GenerationSlot.{GenerationSlot}
+use Rattle.head_anchor.specs.declared.BalSkip.{BalSkip}
+use Rattle.head_anchor.specs.declared.AnchorSlot.{AnchorSlot}
+use Rattle.head_anchor.specs.declared.ReadAnchor.{ReadAnchor}
+use Rattle.head_count.specs.declared.Epoch.{Epoch}
+use Rattle.head_attempt.specs.declared.Waiter.{Waiter}
+use Rattle.head_current.specs.declared.CurrentHead.{CurrentHead}
+use Rattle.head_current.specs.declared.DeliverySlot.{DeliverySlot}
+use Rattle.head_current.specs.declared.HeadDelivery.{HeadDelivery}
+use Rattle.head_current.specs.declared.HeadTicket.{HeadTicket}
+use Rattle.head_current.specs.declared.UnsettledHead.{UnsettledHead}
+use Rattle.head_driver.specs.declared.Driver.{Driver}
+use Rattle.head_driver.specs.declared.Reply.{Reply}
+use Rattle.head_ready.specs.declared.GenerationSlot.{GenerationSlot}
 use Rattle.head_plan.specs.declared.head_lifecycle.ApplyPlan.{ApplyPlan}
 use Rattle.head_claim.specs.declared.head_lifecycle.ClaimStart.{ClaimStart}
-use Rattle.head_ready.specs.declared.head_lifecycle.HeadCold.{HeadCold}
-use Rattle.head_life.specs.declared.head_lifecycle.HeadLifecycle.{HeadLifecycle}
-use Rattle.head_ready.specs.declared.head_lifecycle.HeadReadiness.{HeadReadiness}
-use Rattle.head_ready.specs.declared.head_lifecycle.HeadView.{HeadView}
-use Rattle.head_ready.specs.declared.head_lifecycle.Source.{Source}
-use Rattle.head_call.specs.declared.head_lifecycle.Call.{Call}
+use Rattle.head_ready.specs.declared.HeadCold.{HeadCold}
+use Rattle.head_life.specs.declared.HeadLifecycle.{HeadLifecycle}
+use Rattle.head_ready.specs.declared.HeadReadiness.{HeadReadiness}
+use Rattle.head_ready.specs.declared.HeadView.{HeadView}
+use Rattle.head_ready.specs.declared.Source.{Source}
+use Rattle.head_call.specs.declared.Call.{Call}
 
 abbrev Replied : Reply → Type 0
 Replied r = AnswerFits (r .answer)

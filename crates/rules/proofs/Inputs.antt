@@ -17,7 +17,7 @@ use Rattle.script_call.proofs.Back.{sheet-back}
 use Rattle.script.specs.Prints.{leaves, prints}
 use Rattle.script_sheet.specs.Sheets.{sheetText}
 use Rattle.text.specs.Ascii.{ascii}
-use Rattle.head_driver.specs.declared.head_lifecycle.Driver.{Driver}
+use Rattle.head_driver.specs.declared.Driver.{Driver}
 use Rattle.script_call.specs.declared.LineCall.{LineCall}
 use Rattle.rules.specs.Inputs.{EndsInFeed, InputsRule, alone, empty, ended, lastSheet, leftBy}
 use Rattle.rules.specs.Runs.{after}

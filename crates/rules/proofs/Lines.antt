@@ -18,9 +18,9 @@ use Rattle.script_call.proofs.Ranges.{call-range}
 use Rattle.script_call.specs.Calls.{call}
 use Rattle.script_call.specs.Ranges.{LineWritable}
 use Rattle.script_call.specs.Texts.{callText, sheetCallText}
-use Rattle.head_driver.specs.declared.head_lifecycle.Answer.{Answer}
-use Rattle.head_driver.specs.declared.head_lifecycle.Driver.{Driver}
-use Rattle.head_call.specs.declared.head_lifecycle.Call.{Call}
+use Rattle.head_driver.specs.declared.Answer.{Answer}
+use Rattle.head_driver.specs.declared.Driver.{Driver}
+use Rattle.head_call.specs.declared.Call.{Call}
 use Rattle.script_call.specs.declared.LineCall.{LineCall}
 use Rattle.rules.specs.Runs.{Bytes, Entry, Further, after, answers, turnAt}
 use Rattle.rules.specs.Statements.{LinesKeep, SameAnswers}

@@ -7,7 +7,7 @@ use Rattle.alike.proofs.Shown.{shows-enough}
 use Rattle.alike.specs.Invariant.{Invariant}
 use Rattle.head_driver.specs.New.{new}
 use Rattle.sheet_back.proofs.Sheets.{equal-sheets}
-use Rattle.head_driver.specs.declared.head_lifecycle.Driver.{Driver}
+use Rattle.head_driver.specs.declared.Driver.{Driver}
 use Rattle.rules.specs.Runs.{Entry, after}
 use Rattle.rules.specs.Statements.{AnswersTellSheets, CountersBelow, KeptAnswersTellSheets, KeptSheetsTellAnswers, SheetRule, SheetsTellAnswers, TellingBelow}
 use Rattle.rules.proofs.Feeds.{sheet-is-text}

@@ -14,8 +14,8 @@ use Rattle.value_text.specs.Words.{wordText}
 use Rattle.text.specs.Ascii.{ascii}
 use Rattle.text.specs.Decimals.{decimal, decimalOn}
 use Rattle.script_answer.specs.declared.LineAnswer.{LineAnswer}
-use Rattle.head_driver.specs.declared.head_lifecycle.Answer.{Answer}
-use Rattle.head_ready.specs.declared.head_lifecycle.HeadOutcome.{HeadOutcome}
+use Rattle.head_driver.specs.declared.Answer.{Answer}
+use Rattle.head_ready.specs.declared.HeadOutcome.{HeadOutcome}
 use Rattle.value_text.specs.declared.page.Page.{Page}
 use Rattle.rules.specs.Said.{Says, answerRefusal, lineRefusal, namesOn, outcomeRefusal, refusalLine}
 

@@ -7,7 +7,7 @@ use lib.ListN.{length, drop}
 use Rattle.head_driver.specs.New.{new}
 use Rattle.script.specs.Scripts.{lines, script}
 use Rattle.text.specs.Ascii.{ascii}
-use Rattle.head_driver.specs.declared.head_lifecycle.Driver.{Driver}
+use Rattle.head_driver.specs.declared.Driver.{Driver}
 use Rattle.rules.specs.Runs.{Entry, after}
 use Rattle.rules.specs.Statements.{CountersBelow, SameAnswers}
 

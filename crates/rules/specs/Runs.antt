@@ -7,7 +7,7 @@ use Rattle.script_answer.specs.Answers.{lineText}
 use Rattle.script_call.specs.Calls.{call}
 use Rattle.text.specs.Ascii.{ascii}
 use Rattle.driver.specs.declared.Turn.{Turn}
-use Rattle.head_driver.specs.declared.head_lifecycle.Driver.{Driver}
+use Rattle.head_driver.specs.declared.Driver.{Driver}
 
 -- an element of a list: a line without its line feed, and the sheet buffer that stands beside it, of any length
 pub record Entry : Type 0 where

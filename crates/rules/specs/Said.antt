@@ -6,9 +6,9 @@ use Rattle.value_text.specs.Texts.{anchorText}
 use Rattle.text.specs.Ascii.{ascii}
 use Rattle.text.specs.Decimals.{decimal}
 use Rattle.script_answer.specs.declared.LineAnswer.{LineAnswer}
-use Rattle.head_anchor.specs.declared.storage_memo.ReadAnchor.{ReadAnchor}
-use Rattle.head_driver.specs.declared.head_lifecycle.Answer.{Answer}
-use Rattle.head_ready.specs.declared.head_lifecycle.HeadOutcome.{HeadOutcome}
+use Rattle.head_anchor.specs.declared.ReadAnchor.{ReadAnchor}
+use Rattle.head_driver.specs.declared.Answer.{Answer}
+use Rattle.head_ready.specs.declared.HeadOutcome.{HeadOutcome}
 use Rattle.value_text.specs.declared.page.Page.{Page}
 use Rattle.rules.specs.Refusals.{Refusal}
 

@@ -8,7 +8,7 @@ use Rattle.hash.specs.Logic.{if}
 use Rattle.script_call.specs.Calls.{call}
 use Rattle.text.specs.Ascii.{ascii}
 use Rattle.script_answer.specs.declared.LineAnswer.{LineAnswer}
-use Rattle.head_driver.specs.declared.head_lifecycle.Driver.{Driver}
+use Rattle.head_driver.specs.declared.Driver.{Driver}
 
 -- a byte in front of a text that was cut so: a line feed, which is 10, stays, and so does whatever stands before one
 unfoldable pub onto : ℕ → List ℕ → List ℕ

@@ -7,7 +7,7 @@ use lib.ListN.{length}
 use Rattle.alike.specs.Invariant.{Invariant}
 use Rattle.head_driver.specs.New.{new}
 use Rattle.script_sheet.specs.Sheets.{sheetText}
-use Rattle.head_driver.specs.declared.head_lifecycle.Driver.{Driver}
+use Rattle.head_driver.specs.declared.Driver.{Driver}
 use Rattle.rules.specs.Runs.{Entry, Further, after, answers}
 use Rattle.rules.specs.Sheets.{sheetInto}
 

@@ -9,7 +9,7 @@ use Rattle.script_answer.specs.Answers.{lineText}
 use Rattle.head_current.specs.Heads.{delivery}
 use Rattle.script_call.specs.Calls.{call}
 use Rattle.driver.specs.declared.Turn.{Turn}
-use Rattle.head_driver.specs.declared.head_lifecycle.Driver.{Driver}
+use Rattle.head_driver.specs.declared.Driver.{Driver}
 use Rattle.script_call.specs.declared.LineCall.{LineCall}
 use Rattle.rules.specs.Refusals.{FirstThatApplies, HeadInstalled, IsSettled, Refusal, leftBy, tests}
 use Rattle.rules.specs.Said.{Says, lineRefusal}

@@ -15,7 +15,7 @@ use Rattle.pending.specs.Kept.{Part, keepByte, keepAll, lineSoFar}
 use Rattle.pending.proofs.Held.{Sound, sound-byte, held-line}
 use Rattle.script_call.specs.Calls.{call}
 use Rattle.script.specs.Prints.{prints, leaves}
-use Rattle.head_driver.specs.declared.head_lifecycle.Driver.{Driver}
+use Rattle.head_driver.specs.declared.Driver.{Driver}
 use Rattle.script_call.specs.declared.LineCall.{LineCall}
 use Rattle.script.specs.Scripts.{linesAfter, lines, lastLine, answered, script}
 use Rattle.script.specs.Feeds.{Reading, reading, lineEnds, byteTaken, bytePrints, allTaken, allPrints, lastOf, lastPrints}

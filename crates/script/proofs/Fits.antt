@@ -5,7 +5,7 @@ use mathlib.Core.List.{List}
 use mathlib.Core.Path.{_≡_, ap, sym, _∙_}
 use lib.ListN.{length, take, drop, length-append}
 use lib.Seq.{length-sets, length-take-le}
-use Rattle.head_driver.specs.declared.head_lifecycle.Driver.{Driver}
+use Rattle.head_driver.specs.declared.Driver.{Driver}
 use Rattle.script.specs.Feeds.{Reading, TakesSome}
 use Rattle.script.specs.Parts.{Prints, atFront}
 use Rattle.script.specs.declared.Fed.{Fed}

@@ -15,7 +15,7 @@ use Rattle.pending.proofs.Held.{Sound, sound-all}
 use Rattle.script_call.specs.Calls.{call}
 use Rattle.script.specs.Prints.{prints}
 use Rattle.text.proofs.Writes.{nothing}
-use Rattle.head_driver.specs.declared.head_lifecycle.Driver.{Driver}
+use Rattle.head_driver.specs.declared.Driver.{Driver}
 use Rattle.pending.specs.declared.Kept.{Kept}
 use Rattle.script.specs.Feeds.{AnswersHeld, Feeds, Reading, reading, lineEnds, byteTaken, bytePrints, allTaken, allPrints}
 use Rattle.script.specs.declared.Fed.{Fed}

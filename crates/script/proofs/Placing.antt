@@ -11,7 +11,7 @@ use Rattle.script_call.specs.Calls.{call}
 use Rattle.script.specs.Parts.{Prints, atFront}
 use Rattle.script.specs.Prints.{leaves, prints}
 use Rattle.text.specs.Writes.{Wrote}
-use Rattle.head_driver.specs.declared.head_lifecycle.Driver.{Driver}
+use Rattle.head_driver.specs.declared.Driver.{Driver}
 use Rattle.script.specs.declared.Printed.{Printed}
 use Rattle.script.specs.Feeds.{AnswersHeld}
 use Rattle.script.specs.declared.Fed.{Fed}

@@ -11,7 +11,7 @@ use Rattle.script_sheet.specs.Sheets.{sheetText}
 use Rattle.script_value.specs.Buffers.{AtFront, bufferAfter, written}
 use Rattle.script_answer.specs.declared.LineAnswer.{LineAnswer}
 use Rattle.driver.specs.declared.Turn.{Turn}
-use Rattle.head_driver.specs.declared.head_lifecycle.Driver.{Driver}
+use Rattle.head_driver.specs.declared.Driver.{Driver}
 use Rattle.script_call.specs.declared.LineCall.{LineCall}
 use Rattle.script_value.specs.declared.buffer.Written.{Written}
 use Rattle.script.specs.Prints.{leaves, prints}

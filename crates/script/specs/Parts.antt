@@ -5,7 +5,7 @@ use mathlib.Core.Path.{_≡_}
 use lib.ListN.{length, drop}
 use Rattle.script_answer.specs.Answers.{lineText}
 use Rattle.script_answer.specs.declared.LineAnswer.{LineAnswer}
-use Rattle.head_driver.specs.declared.head_lifecycle.Driver.{Driver}
+use Rattle.head_driver.specs.declared.Driver.{Driver}
 use Rattle.script_value.specs.declared.buffer.Written.{Written}
 use Rattle.script.specs.declared.Printed.{Printed}
 

@@ -4,7 +4,7 @@ use mathlib.Core.List.{List, []}
 use Rattle.driver.specs.Turns.{turnOf}
 use Rattle.script_answer.specs.Answers.{lineText}
 use Rattle.script_sheet.specs.Sheets.{sheetText}
-use Rattle.head_driver.specs.declared.head_lifecycle.Driver.{Driver}
+use Rattle.head_driver.specs.declared.Driver.{Driver}
 use Rattle.script_call.specs.declared.LineCall.{LineCall}
 
 -- what a line prints: `(sheet)` the sheet, every other line its answer's line

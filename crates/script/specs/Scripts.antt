@@ -6,7 +6,7 @@ use Rattle.hash.specs.Logic.{if}
 use Rattle.head_driver.specs.New.{new}
 use Rattle.script_call.specs.Calls.{call}
 use Rattle.script.specs.Prints.{leaves, prints}
-use Rattle.head_driver.specs.declared.head_lifecycle.Driver.{Driver}
+use Rattle.head_driver.specs.declared.Driver.{Driver}
 
 -- Lines end at line feeds; the last may lack one. Input that ends in a line feed has no further line.
 abbrev pub lastLine : List ℕ → List (List ℕ)

@@ -4,7 +4,7 @@ ghost use mathlib.Core.Path.{_≡_};
 ghost use lib.ListN.{length};
 ghost use Rattle.script.specs.Feeds.{AnswersHeld, Finishes, TakesSome, reading, usable};
 use crate::line::print_line;
-use head_driver::head_lifecycle::Driver;
+use head_driver::Driver;
 use pending::keep;
 
 mod line;

@@ -9,7 +9,7 @@ use crate::Printed;
 use driver::LineAnswer;
 use driver::put_line;
 use driver::take_line;
-use head_driver::head_lifecycle::Driver;
+use head_driver::Driver;
 use script_value::buffer::Written;
 
 pub(crate) fn bytes_written(written: Written) -> usize

@@ -6,8 +6,8 @@ use Rattle.value_text.proofs.Rows.{values-then}
 use Rattle.script_value.specs.Texts.{statsText}
 use Rattle.value_text.specs.Words.{wordText}
 use Rattle.text.specs.Ascii.{ascii}
-use Rattle.head_count.specs.declared.head_lifecycle.HeadStats.{HeadStats}
-use Rattle.head_driver.specs.declared.head_lifecycle.Answer.{Answer}
+use Rattle.head_count.specs.declared.HeadStats.{HeadStats}
+use Rattle.head_driver.specs.declared.Answer.{Answer}
 use Rattle.script_answer.specs.Lines.{answerText, refusalOn, saidText}
 
 pub stats-line : (s : HeadStats) → ascii "(stats" ++ (statsText s ++ ascii ")") ≡ answerText (Answer.Stats s)

@@ -3,7 +3,7 @@ use Prim.Native.Nat.{ℕ}
 use mathlib.Core.List.{List, [], _++_}
 use Rattle.script_answer.specs.Lines.{answerText}
 use Rattle.text.specs.Ascii.{ascii}
-use Rattle.head_driver.specs.declared.head_lifecycle.Answer.{Answer}
+use Rattle.head_driver.specs.declared.Answer.{Answer}
 use Rattle.script_answer.specs.declared.LineAnswer.{LineAnswer}
 
 -- every answer line ends with a line feed

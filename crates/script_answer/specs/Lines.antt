@@ -6,7 +6,7 @@ use Rattle.value_text.specs.Values.{valuesOn}
 use Rattle.value_text.specs.Words.{wordText}
 use Rattle.text.specs.Ascii.{ascii}
 use Rattle.text.specs.Decimals.{decimal}
-use Rattle.head_driver.specs.declared.head_lifecycle.Answer.{Answer}
+use Rattle.head_driver.specs.declared.Answer.{Answer}
 use Rattle.value_text.specs.declared.page.Page.{Page}
 
 -- a refusal's number after a space, in front of s; 0 is no refusal

@@ -18,7 +18,7 @@ use crate::lines::put_ticket;
 use crate::lines::put_view;
 use crate::refusals::put_head_outcome;
 use crate::refusals::put_refused;
-use head_driver::head_lifecycle::Answer;
+use head_driver::Answer;
 use script_value::buffer::Written;
 use text_put::put::put;
 use text_put::put::put_byte;

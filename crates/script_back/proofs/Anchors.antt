@@ -19,10 +19,10 @@ use Rattle.text.specs.Decimals.{decimal}
 use Rattle.text.specs.Rests.{after, at, says, step}
 use Rattle.text.specs.Words.{inWord, run}
 use Rattle.hash.specs.declared.Hash.{Hash}
-use Rattle.head_anchor.specs.declared.storage_memo.AnchorSlot.{AnchorSlot}
-use Rattle.head_anchor.specs.declared.storage_memo.BlockHash.{BlockHash}
-use Rattle.head_anchor.specs.declared.storage_memo.ReadAnchor.{ReadAnchor}
-use Rattle.head_count.specs.declared.head_lifecycle.HeadStats.{HeadStats}
+use Rattle.head_anchor.specs.declared.AnchorSlot.{AnchorSlot}
+use Rattle.head_anchor.specs.declared.BlockHash.{BlockHash}
+use Rattle.head_anchor.specs.declared.ReadAnchor.{ReadAnchor}
+use Rattle.head_count.specs.declared.HeadStats.{HeadStats}
 use Rattle.value_text.specs.declared.page.Page.{Page}
 use Rattle.head_anchor.specs.Ranges.{AnchorFits, BlockHashFits, SlotFits}
 use Rattle.head_count.specs.Ranges.{StatsFit}

@@ -16,14 +16,14 @@ use Rattle.text.specs.Ascii.{ascii}
 use Rattle.text.specs.Rests.{after, at, says, step}
 use Rattle.text.specs.Same.{sameText}
 use Rattle.text.specs.Words.{inWord, run}
-use Rattle.head_anchor.specs.declared.bal_prefetch.BalSkip.{BalSkip}
-use Rattle.head_anchor.specs.declared.read_hub.CarryOutcome.{CarryOutcome}
-use Rattle.head_anchor.specs.declared.read_hub.Link.{Link}
-use Rattle.head_attempt.specs.declared.head_lifecycle.HeadCompletion.{HeadCompletion}
-use Rattle.head_current.specs.declared.head_lifecycle.LastReport.{LastReport}
-use Rattle.head_ready.specs.declared.head_lifecycle.HeadCold.{HeadCold}
-use Rattle.head_ready.specs.declared.head_lifecycle.HeadReadiness.{HeadReadiness}
-use Rattle.head_ready.specs.declared.head_lifecycle.Source.{Source}
+use Rattle.head_anchor.specs.declared.BalSkip.{BalSkip}
+use Rattle.head_anchor.specs.declared.CarryOutcome.{CarryOutcome}
+use Rattle.head_anchor.specs.declared.Link.{Link}
+use Rattle.head_attempt.specs.declared.HeadCompletion.{HeadCompletion}
+use Rattle.head_current.specs.declared.LastReport.{LastReport}
+use Rattle.head_ready.specs.declared.HeadCold.{HeadCold}
+use Rattle.head_ready.specs.declared.HeadReadiness.{HeadReadiness}
+use Rattle.head_ready.specs.declared.Source.{Source}
 use Rattle.script_back.specs.Outcomes.{readCold, readEnd, readFault, readFaulty, readLink, readMade, readNote, readOutcome, readReadiness, readReport, readSkip, readSource}
 use Rattle.hash.specs.Ranges.{Fits}
 use Rattle.head_anchor.specs.Ranges.{OutcomeFits, SkipFits}

@@ -8,10 +8,10 @@ use Rattle.value_text.specs.Words.{wordText}
 use Rattle.text.specs.Ascii.{ascii}
 use Rattle.text.specs.Rests.{Rest, Took, after, pastWord, readNumber, says}
 use Rattle.hash.specs.declared.Hash.{Hash}
-use Rattle.head_anchor.specs.declared.storage_memo.AnchorSlot.{AnchorSlot}
-use Rattle.head_anchor.specs.declared.storage_memo.BlockHash.{BlockHash}
-use Rattle.head_anchor.specs.declared.storage_memo.ReadAnchor.{ReadAnchor}
-use Rattle.head_count.specs.declared.head_lifecycle.HeadStats.{HeadStats}
+use Rattle.head_anchor.specs.declared.AnchorSlot.{AnchorSlot}
+use Rattle.head_anchor.specs.declared.BlockHash.{BlockHash}
+use Rattle.head_anchor.specs.declared.ReadAnchor.{ReadAnchor}
+use Rattle.head_count.specs.declared.HeadStats.{HeadStats}
 use Rattle.value_text.specs.declared.page.Page.{Page}
 
 -- ---- how readers are joined

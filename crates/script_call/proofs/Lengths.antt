@@ -2,7 +2,7 @@
 use Prim.Native.Nat.{_≤_}
 use native.Mathlib.Omega.{arith}
 use lib.ListN.{length, length-append}
-use Rattle.head_call.specs.declared.head_lifecycle.Call.{Call}
+use Rattle.head_call.specs.declared.Call.{Call}
 use Rattle.text.proofs.Back.{length-decimal}
 use Rattle.hash_text.proofs.Back.{length-line-hash}
 use Rattle.script_call.proofs.ValuesLengths.{length-anchor, length-slot, length-skip}

@@ -9,7 +9,7 @@ use mathlib.Core.List.{List, [], _∷_, _++_}
 use lib.ListN.{length}
 use lib.Dec.{eqb, ltb}
 use Rattle.hash.specs.Logic.{if}
-use Rattle.head_call.specs.declared.head_lifecycle.Call.{Call}
+use Rattle.head_call.specs.declared.Call.{Call}
 use Rattle.text.specs.Ascii.{ascii}
 use Rattle.text.specs.Same.{sameText}
 use Rattle.text.specs.Rests.{Rest, at, stopped, after, wordHere, pastWord, atEnd}

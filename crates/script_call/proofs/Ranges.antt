@@ -5,7 +5,7 @@ use mathlib.Core.List.{List}
 use lib.ListN.{length}
 use lib.Dec.{eqb, ltb}
 use Rattle.hash.specs.Logic.{if}
-use Rattle.head_call.specs.declared.head_lifecycle.Call.{Call}
+use Rattle.head_call.specs.declared.Call.{Call}
 use Rattle.text.specs.Ascii.{ascii}
 use Rattle.text.specs.Same.{sameText}
 use Rattle.text.specs.Rests.{Rest, at, after, wordHere, pastWord}

@@ -5,9 +5,9 @@ use mathlib.Core.List.{List}
 use lib.ListN.{length}
 use lib.Dec.{eqb, ltb}
 use Rattle.hash.specs.Logic.{if}
-use Rattle.head_anchor.specs.declared.read_hub.PreparedBal.{PreparedBal}
-use Rattle.head_current.specs.declared.head_lifecycle.HeadTicket.{HeadTicket}
-use Rattle.head_call.specs.declared.head_lifecycle.Call.{Call}
+use Rattle.head_anchor.specs.declared.PreparedBal.{PreparedBal}
+use Rattle.head_current.specs.declared.HeadTicket.{HeadTicket}
+use Rattle.head_call.specs.declared.Call.{Call}
 use Rattle.text.specs.Ascii.{ascii}
 use Rattle.text.specs.Same.{sameText}
 use Rattle.text.specs.Rests.{Rest, at, Took, after, wordHere, pastWord, atEnd}

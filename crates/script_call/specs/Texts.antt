@@ -1,7 +1,7 @@
 -- Document 01, "Lines": each call's own line, in its order, with no line feed.
 use Prim.Native.Nat.{ℕ}
 use mathlib.Core.List.{List, _++_}
-use Rattle.head_call.specs.declared.head_lifecycle.Call.{Call}
+use Rattle.head_call.specs.declared.Call.{Call}
 use Rattle.text.specs.Ascii.{ascii}
 use Rattle.text.specs.Decimals.{decimal}
 use Rattle.hash_text.specs.LineHashes.{lineHashText}

@@ -7,10 +7,10 @@ use Rattle.text.specs.Ascii.{ascii}
 use Rattle.text.specs.Rests.{Rest, stopped, Took, after, wordHere, says, pastWord, readNumber}
 use Rattle.hash.specs.declared.Hash.{Hash}
 use Rattle.hash_text.specs.declared.HashWord.{HashWord}
-use Rattle.head_anchor.specs.declared.bal_prefetch.BalSkip.{BalSkip}
-use Rattle.head_anchor.specs.declared.storage_memo.AnchorSlot.{AnchorSlot}
-use Rattle.head_anchor.specs.declared.storage_memo.BlockHash.{BlockHash}
-use Rattle.head_anchor.specs.declared.storage_memo.ReadAnchor.{ReadAnchor}
+use Rattle.head_anchor.specs.declared.BalSkip.{BalSkip}
+use Rattle.head_anchor.specs.declared.AnchorSlot.{AnchorSlot}
+use Rattle.head_anchor.specs.declared.BlockHash.{BlockHash}
+use Rattle.head_anchor.specs.declared.ReadAnchor.{ReadAnchor}
 
 -- ---- anchors
 

@@ -4,7 +4,7 @@ ghost use Rattle.text.specs.Places.{here, Reads};
 use crate::spaced::is_none;
 use crate::spaced::past_byte;
 use crate::spaced::spaced_number;
-use head_anchor::bal_prefetch::BalSkip;
+use head_anchor::BalSkip;
 use text::place::Place;
 use text::word::same;
 use text_place::past;

@@ -12,7 +12,7 @@ ghost use Rattle.text.specs.Ascii.{ascii};
 use driver::LineAnswer;
 use driver::put_line;
 use driver::take_line;
-use head_driver::head_lifecycle::Driver;
+use head_driver::Driver;
 use head_driver::head_lifecycle::new;
 use libc::STDIN_FILENO;
 use libc::STDOUT_FILENO;

@@ -5,8 +5,8 @@ use lib.ListN.{length}
 use Rattle.alike.specs.Invariant.{Invariant}
 use Rattle.script_answer.specs.Answers.{answerLine}
 use Rattle.script_sheet.specs.Sheets.{sheetText}
-use Rattle.head_driver.specs.declared.head_lifecycle.Answer.{Answer}
-use Rattle.head_driver.specs.declared.head_lifecycle.Driver.{Driver}
+use Rattle.head_driver.specs.declared.Answer.{Answer}
+use Rattle.head_driver.specs.declared.Driver.{Driver}
 
 -- An answer's line with its line feed: 272 bytes, those of `heads`, at most,
 abbrev pub AnswerLength : Type 0

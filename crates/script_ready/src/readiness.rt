@@ -3,9 +3,9 @@ ghost use Prim.Native.Nat.{_+_, _≤_};
 ghost use lib.ListN.{length};
 ghost use Rattle.script_outcome.specs.Texts.{reasonText, readinessText};
 ghost use Rattle.text.specs.Writes.{Wrote};
-use head_anchor::read_hub::CarryOutcome;
-use head_ready::head_lifecycle::HeadCold;
-use head_ready::head_lifecycle::HeadReadiness;
+use head_anchor::CarryOutcome;
+use head_ready::HeadCold;
+use head_ready::HeadReadiness;
 use script_outcome::put_outcome;
 use text_put::put::put;
 

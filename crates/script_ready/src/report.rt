@@ -3,7 +3,7 @@ ghost use Prim.Native.Nat.{_+_, _≤_};
 ghost use lib.ListN.{length};
 ghost use Rattle.script_outcome.specs.Texts.{reportText};
 ghost use Rattle.text.specs.Writes.{Wrote};
-use head_current::head_lifecycle::LastReport;
+use head_current::LastReport;
 use script_outcome::put_outcome;
 use text_put::decimal::put_decimal;
 use text_put::put::put;

@@ -4,12 +4,12 @@ use mathlib.Core.List.{List, [], _∷_, _++_}
 use mathlib.Core.Path.{_≡_, refl}
 use Rattle.alike.specs.Canon.{canon, shownHead, shownLife, shownSuperseded, shownWaiter, shownWaiters}
 use Rattle.sheet_lines.specs.Lines.{countLine, currentLine, deliveryText, installedLine, previousLine, supersededLine, unsettledText, waiterLine, waiterLines}
-use Rattle.head_count.specs.declared.head_lifecycle.Epoch.{Epoch}
-use Rattle.head_attempt.specs.declared.head_lifecycle.Waiter.{Waiter}
-use Rattle.head_attempt.specs.declared.head_lifecycle.WaiterSlot.{WaiterSlot}
-use Rattle.head_current.specs.declared.head_lifecycle.CurrentHead.{CurrentHead}
-use Rattle.head_driver.specs.declared.head_lifecycle.Driver.{Driver}
-use Rattle.head_life.specs.declared.head_lifecycle.HeadLifecycle.{HeadLifecycle}
+use Rattle.head_count.specs.declared.Epoch.{Epoch}
+use Rattle.head_attempt.specs.declared.Waiter.{Waiter}
+use Rattle.head_attempt.specs.declared.WaiterSlot.{WaiterSlot}
+use Rattle.head_current.specs.declared.CurrentHead.{CurrentHead}
+use Rattle.head_driver.specs.declared.Driver.{Driver}
+use Rattle.head_life.specs.declared.HeadLifecycle.{HeadLifecycle}
 use Rattle.script_sheet.specs.Sheets.{lifeLines, linesOf, sheetText}
 
 pub current-shown : (n : ℕ) (e : Epoch) (c : CurrentHead) → currentLine (shownHead n e c) ≡ currentLine c

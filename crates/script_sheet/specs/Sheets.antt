@@ -3,8 +3,8 @@ use Prim.Native.Nat.{ℕ}
 use mathlib.Core.List.{List, _++_}
 use Rattle.alike.specs.Canon.{canon}
 use Rattle.sheet_lines.specs.Lines.{countLine, currentLine, installedLine, previousLine, supersededLine, waiterLines}
-use Rattle.head_driver.specs.declared.head_lifecycle.Driver.{Driver}
-use Rattle.head_life.specs.declared.head_lifecycle.HeadLifecycle.{HeadLifecycle}
+use Rattle.head_driver.specs.declared.Driver.{Driver}
+use Rattle.head_life.specs.declared.HeadLifecycle.{HeadLifecycle}
 
 -- count; current; superseded; installed; previous
 unfoldable pub lifeLines : HeadLifecycle → List ℕ

@@ -6,7 +6,7 @@ ghost use Rattle.script_sheet.specs.Sheets.{sheetText};
 ghost use Rattle.script_value.specs.Buffers.{AtFront};
 ghost use Rattle.text.specs.Writes.{Wrote};
 use crate::life::put_life;
-use head_driver::head_lifecycle::Driver;
+use head_driver::Driver;
 use script_value::buffer::Written;
 use sheet_waiters::put_waiters;
 

@@ -9,10 +9,10 @@ ghost use Rattle.text.specs.Writes.{Wrote};
 use crate::lines::put_count;
 use crate::lines::put_superseded;
 use crate::mask::shown_superseded;
-use head_anchor::storage_memo::AnchorSlot;
-use head_current::head_lifecycle::CurrentHead;
-use head_life::head_lifecycle::HeadLifecycle;
-use head_ready::delta_snapshot::GenerationSlot;
+use head_anchor::AnchorSlot;
+use head_current::CurrentHead;
+use head_life::HeadLifecycle;
+use head_ready::GenerationSlot;
 use sheet_generations::put_generations;
 use sheet_lines::put_current;
 

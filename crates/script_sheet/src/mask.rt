@@ -2,11 +2,11 @@
 ghost use mathlib.Core.Path.{_≡_};
 ghost use Rattle.alike.specs.Canon.{isSettled, masked, shownSuperseded};
 use hash::both;
-use head_anchor::storage_memo::AnchorSlot;
-use head_anchor::storage_memo::ReadAnchor;
+use head_anchor::AnchorSlot;
+use head_anchor::ReadAnchor;
 use head_anchor::storage_memo::holds;
-use head_current::head_lifecycle::CurrentHead;
-use head_ready::delta_snapshot::GenerationSlot;
+use head_current::CurrentHead;
+use head_ready::GenerationSlot;
 
 pub(crate) fn is_settled(current: CurrentHead) -> bool
     ensures { λ r. ⌜ r ≡ isSettled current ⌝ }

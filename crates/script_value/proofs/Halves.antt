@@ -4,7 +4,7 @@ use mathlib.Core.List.{List, _++_, append-assoc, append-nil}
 use mathlib.Core.Path.{_≡_}
 use Rattle.head_driver.specs.Answers.{statsValues}
 use Rattle.text.specs.Decimals.{decimal}
-use Rattle.head_count.specs.declared.head_lifecycle.HeadStats.{HeadStats}
+use Rattle.head_count.specs.declared.HeadStats.{HeadStats}
 use Rattle.script_value.specs.Texts.{fourText, spacedText, statsText}
 use Rattle.value_text.specs.Values.{valueText, valuesOn}
 

@@ -5,7 +5,7 @@ use Rattle.head_driver.specs.Answers.{statsValues}
 use Rattle.text.specs.Ascii.{ascii}
 use Rattle.text.specs.Decimals.{decimal}
 use Rattle.value_text.specs.Values.{valuesOn}
-use Rattle.head_count.specs.declared.head_lifecycle.HeadStats.{HeadStats}
+use Rattle.head_count.specs.declared.HeadStats.{HeadStats}
 use Rattle.value_text.specs.declared.page.Page.{Page}
 
 unfoldable pub spacedText : ℕ → List ℕ

@@ -2,10 +2,10 @@
 use mathlib.Core.Bool.{Bool, true, false}
 use Rattle.alike.specs.Canon.{maskBy, masked, shownSuperseded}
 use Rattle.hash.specs.Logic.{if}
-use Rattle.head_anchor.specs.declared.storage_memo.AnchorSlot.{AnchorSlot}
-use Rattle.head_anchor.specs.declared.storage_memo.ReadAnchor.{ReadAnchor}
-use Rattle.head_current.specs.declared.head_lifecycle.CurrentHead.{CurrentHead}
-use Rattle.head_ready.specs.declared.delta_snapshot.GenerationSlot.{GenerationSlot}
+use Rattle.head_anchor.specs.declared.AnchorSlot.{AnchorSlot}
+use Rattle.head_anchor.specs.declared.ReadAnchor.{ReadAnchor}
+use Rattle.head_current.specs.declared.CurrentHead.{CurrentHead}
+use Rattle.head_ready.specs.declared.GenerationSlot.{GenerationSlot}
 use Rattle.head_anchor.specs.Ranges.{AnchorFits, SlotFits}
 
 if-fits : (b : Bool) (a : ReadAnchor) → AnchorFits a → SlotFits (if b AnchorSlot.Nothing (AnchorSlot.At a))

@@ -4,13 +4,13 @@ use mathlib.Core.List.{List, [], _∷_, _++_, append-assoc}
 use mathlib.Core.Path.{_≡_, refl, ap, sym, _∙_}
 use Rattle.alike.specs.Canon.{canon, shownLife, shownSuperseded, shownWaiters, shownWaiter}
 use Rattle.alike.specs.Invariant.{Invariant}
-use Rattle.head_attempt.specs.declared.head_lifecycle.Waiter.{Waiter}
-use Rattle.head_attempt.specs.declared.head_lifecycle.WaiterSlot.{WaiterSlot}
+use Rattle.head_attempt.specs.declared.Waiter.{Waiter}
+use Rattle.head_attempt.specs.declared.WaiterSlot.{WaiterSlot}
 use Rattle.script_sheet.proofs.Shown.{life-shown, sheet-shown}
 use Rattle.script_sheet.specs.Sheets.{sheetText}
 use Rattle.sheet_lines.specs.Lines.{countLine, currentLine, installedLine, previousLine, supersededLine, waiterLines}
 use Rattle.text.specs.Rests.{atEnd}
-use Rattle.head_driver.specs.declared.head_lifecycle.Driver.{Driver}
+use Rattle.head_driver.specs.declared.Driver.{Driver}
 use Rattle.sheet_back.specs.Reads.{Sheet, readSheet, whole}
 use Rattle.sheet_back.specs.Statements.{EqualSheets, ReadBack}
 use Rattle.sheet_back.proofs.Lines.{count-back, current-back, installed-back, previous-back, superseded-back}

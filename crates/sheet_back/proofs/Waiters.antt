@@ -19,9 +19,9 @@ use Rattle.text.specs.Decimals.{decimal, number}
 use Rattle.text.specs.Rests.{Took, after, at, numberGot, past, pastWord, readNumber, step, wordHere}
 use Rattle.text.specs.Same.{sameText}
 use Rattle.text.specs.Words.{inWord, run}
-use Rattle.head_anchor.specs.declared.storage_memo.ReadAnchor.{ReadAnchor}
-use Rattle.head_attempt.specs.declared.head_lifecycle.Waiter.{Waiter}
-use Rattle.head_attempt.specs.declared.head_lifecycle.WaiterSlot.{WaiterSlot}
+use Rattle.head_anchor.specs.declared.ReadAnchor.{ReadAnchor}
+use Rattle.head_attempt.specs.declared.Waiter.{Waiter}
+use Rattle.head_attempt.specs.declared.WaiterSlot.{WaiterSlot}
 use Rattle.value_text.specs.declared.page.Page.{Page}
 use Rattle.sheet_back.specs.Waiters.{going, names, readWaiter, readWaiterAt, readWaiters, waiterNamed}
 

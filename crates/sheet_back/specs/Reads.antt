@@ -4,7 +4,7 @@ use mathlib.Core.List.{List}
 use Rattle.hash.specs.Logic.{if}
 use Rattle.head_count.specs.Counters.{seqOf}
 use Rattle.text.specs.Rests.{Rest, at, atEnd}
-use Rattle.head_driver.specs.declared.head_lifecycle.Driver.{Driver}
+use Rattle.head_driver.specs.declared.Driver.{Driver}
 use Rattle.sheet_back.specs.Heads.{readCount, readCurrent, readInstalled, readPrevious, readSuperseded}
 use Rattle.sheet_back.specs.Waiters.{readWaiters}
 

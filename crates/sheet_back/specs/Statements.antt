@@ -4,7 +4,7 @@ use mathlib.Core.Path.{_≡_}
 use Rattle.alike.specs.Canon.{canon}
 use Rattle.alike.specs.Invariant.{Invariant}
 use Rattle.script_sheet.specs.Sheets.{sheetText}
-use Rattle.head_driver.specs.declared.head_lifecycle.Driver.{Driver}
+use Rattle.head_driver.specs.declared.Driver.{Driver}
 use Rattle.sheet_back.specs.Reads.{Sheet, readSheet}
 
 -- What a sheet shows is read back from it, all of it.

@@ -9,8 +9,8 @@ use Rattle.script_back.specs.Reads.{got, map, readAnchor, then}
 use Rattle.text.specs.Ascii.{ascii}
 use Rattle.text.specs.Rests.{Rest, Took, after, at, pastWord, readNumber, stopped, wordHere}
 use Rattle.text.specs.Same.{sameText}
-use Rattle.head_attempt.specs.declared.head_lifecycle.Waiter.{Waiter}
-use Rattle.head_attempt.specs.declared.head_lifecycle.WaiterSlot.{WaiterSlot}
+use Rattle.head_attempt.specs.declared.Waiter.{Waiter}
+use Rattle.head_attempt.specs.declared.WaiterSlot.{WaiterSlot}
 use Rattle.value_text.specs.declared.page.Page.{Page}
 
 -- reading has not stopped

@@ -7,8 +7,8 @@ use denote.Enum.Declared
 use types.Run.{OneOf}
 use Rattle.text.specs.Ascii.{ascii}
 use Rattle.sheet_lines.specs.Lines.{poseText}
-use Rattle.head_attempt.specs.declared.head_lifecycle.HeadCompletion.{HeadCompletion}
-use Rattle.head_attempt.proofs.head_lifecycle.HeadCompletion.{the-type}
+use Rattle.head_attempt.specs.declared.HeadCompletion.{HeadCompletion}
+use Rattle.head_attempt.proofs.HeadCompletion.{the-type}
 
 -- every end but `abandoned` is written `open`
 pub open-pose : (e : HeadCompletion) → OneOf (0 ∷ (1 ∷ (2 ∷ []))) (Declared.tagOf the-type e) → ascii " open)\n" ≡ ascii " " ++ (poseText e ++ ascii ")\n")

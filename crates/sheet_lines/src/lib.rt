@@ -8,12 +8,12 @@ ghost use Rattle.sheet_lines.specs.Lines.{poseText, deliveryText, unsett
 ghost use Rattle.text.specs.Ascii.{ascii};
 ghost use Rattle.text.specs.Writes.{Wrote};
 use hash_text::put_sheet_hash;
-use head_attempt::head_lifecycle::HeadCompletion;
-use head_current::head_lifecycle::CurrentHead;
-use head_current::head_lifecycle::HeadDelivery;
-use head_current::head_lifecycle::LastReport;
-use head_current::head_lifecycle::SettledHead;
-use head_current::head_lifecycle::UnsettledHead;
+use head_attempt::HeadCompletion;
+use head_current::CurrentHead;
+use head_current::HeadDelivery;
+use head_current::LastReport;
+use head_current::SettledHead;
+use head_current::UnsettledHead;
 use script_ready::report::put_report;
 use script_value::counters::put_spaced;
 use text_put::put::put;

@@ -10,7 +10,7 @@ use lib.Seq.{take-all}
 use Rattle.sheet_lines.specs.Lines.{waiterLine, waiterLines}
 use Rattle.text.proofs.Writes.{then}
 use Rattle.text.specs.Writes.{Wrote}
-use Rattle.head_attempt.specs.declared.head_lifecycle.WaiterSlot.{WaiterSlot}
+use Rattle.head_attempt.specs.declared.WaiterSlot.{WaiterSlot}
 
 one-more : (ss : List WaiterSlot) (n i : ℕ) (d : WaiterSlot) → i < length ss → waiterLines n (take (suc i) ss) ≡ waiterLines n (take i ss) ++ waiterLine (n + i) (getD ss i d .waiter)
 unfolding waiterLines

@@ -2,10 +2,10 @@
 use Prim.Native.Nat.{ℕ}
 use mathlib.Core.List.{List}
 use Rattle.head_anchor.specs.Values.{anchorValue, blockHashValue, skipValue, slotValue}
-use Rattle.head_anchor.specs.declared.bal_prefetch.BalSkip.{BalSkip}
-use Rattle.head_anchor.specs.declared.storage_memo.AnchorSlot.{AnchorSlot}
-use Rattle.head_anchor.specs.declared.storage_memo.BlockHash.{BlockHash}
-use Rattle.head_anchor.specs.declared.storage_memo.ReadAnchor.{ReadAnchor}
+use Rattle.head_anchor.specs.declared.BalSkip.{BalSkip}
+use Rattle.head_anchor.specs.declared.AnchorSlot.{AnchorSlot}
+use Rattle.head_anchor.specs.declared.BlockHash.{BlockHash}
+use Rattle.head_anchor.specs.declared.ReadAnchor.{ReadAnchor}
 use Rattle.value_text.specs.Values.{valueText}
 use Rattle.value_text.specs.declared.page.Page.{Page}
 

@@ -5,9 +5,9 @@ ghost use Rattle.value_text.specs.Texts.{blockHashText, anchorText, slot
 ghost use Rattle.text.specs.Writes.{Wrote};
 use crate::page::Page;
 use crate::page::put_hash_on;
-use head_anchor::storage_memo::AnchorSlot;
-use head_anchor::storage_memo::BlockHash;
-use head_anchor::storage_memo::ReadAnchor;
+use head_anchor::AnchorSlot;
+use head_anchor::BlockHash;
+use head_anchor::ReadAnchor;
 use text_put::decimal::put_decimal;
 use text_put::put::put;
 use text_put::put::put_byte;

@@ -1,11 +1,11 @@
 -- `head_claim::head_lifecycle::claim_start` meets its contract: on each way through its code the result is what the definition gives.
 use mathlib.Core.Path.{_≡_, refl}
-use Rattle.head_anchor.specs.declared.storage_memo.AnchorSlot.{AnchorSlot}
-use Rattle.head_count.specs.declared.head_lifecycle.Epoch.{Epoch}
+use Rattle.head_anchor.specs.declared.AnchorSlot.{AnchorSlot}
+use Rattle.head_count.specs.declared.Epoch.{Epoch}
 use Rattle.head_current.specs.Heads.{delivery}
-use Rattle.head_current.specs.declared.head_lifecycle.CurrentHead.{CurrentHead}
-use Rattle.head_current.specs.declared.head_lifecycle.HeadTicket.{HeadTicket}
-use Rattle.head_life.specs.declared.head_lifecycle.HeadLifecycle.{HeadLifecycle}
+use Rattle.head_current.specs.declared.CurrentHead.{CurrentHead}
+use Rattle.head_current.specs.declared.HeadTicket.{HeadTicket}
+use Rattle.head_life.specs.declared.HeadLifecycle.{HeadLifecycle}
 use Rattle.head_ready.specs.Generations.{slotAnchor}
 use Rattle.head_claim.specs.Parts.{claimNext, startOf}
 use Rattle.head_claim.specs.Starts.{claimStart, claimStartAt}

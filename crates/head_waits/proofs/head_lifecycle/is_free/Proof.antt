@@ -4,8 +4,8 @@ use mathlib.Core.Path.{_≡_, refl}
 use mathlib.Core.List.{[], _∷_}
 use types.Run.{OneOf, miss}
 use denote.Enum.Declared.{tagOf}
-use Rattle.head_attempt.specs.declared.head_lifecycle.Waiter.{Waiter}
-use Rattle.head_attempt.proofs.head_lifecycle.Waiter as T
+use Rattle.head_attempt.specs.declared.Waiter.{Waiter}
+use Rattle.head_attempt.proofs.Waiter as T
 use Rattle.head_waits.specs.Parts.{isFree}
 use Rattle.head_waits.proofs.head_lifecycle.is_free.Statement.{statement}
 use Rattle.head_waits.proofs.head_lifecycle.is_free.Tie as tie

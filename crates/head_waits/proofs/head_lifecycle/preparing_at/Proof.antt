@@ -4,9 +4,9 @@ use mathlib.Core.Path.{_≡_, refl}
 use mathlib.Core.List.{[], _∷_}
 use types.Run.{OneOf, miss}
 use denote.Enum.Declared.{tagOf}
-use Rattle.head_anchor.specs.declared.storage_memo.ReadAnchor.{ReadAnchor}
-use Rattle.head_current.specs.declared.head_lifecycle.CurrentHead.{CurrentHead}
-use Rattle.head_current.proofs.head_lifecycle.CurrentHead as T
+use Rattle.head_anchor.specs.declared.ReadAnchor.{ReadAnchor}
+use Rattle.head_current.specs.declared.CurrentHead.{CurrentHead}
+use Rattle.head_current.proofs.CurrentHead as T
 use Rattle.head_waits.specs.Parts.{preparingAt}
 use Rattle.head_waits.proofs.head_lifecycle.preparing_at.Statement.{statement}
 use Rattle.head_waits.proofs.head_lifecycle.preparing_at.Tie as tie

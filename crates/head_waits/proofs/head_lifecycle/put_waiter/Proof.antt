@@ -6,7 +6,7 @@ use mathlib.Core.List.{List}
 use lib.ListN.{length}
 use lib.Seq.{set-out}
 use borrow.Author.Needs.{needs}
-use Rattle.head_attempt.specs.declared.head_lifecycle.WaiterSlot.{WaiterSlot}
+use Rattle.head_attempt.specs.declared.WaiterSlot.{WaiterSlot}
 use Rattle.head_waits.proofs.head_lifecycle.put_waiter.Statement.{statement}
 use Rattle.head_waits.proofs.head_lifecycle.put_waiter.Tie as tie
 
