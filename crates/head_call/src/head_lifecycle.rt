@@ -4,7 +4,6 @@ ghost use Rattle.head_call.specs.Inputs.{inputNumber, inputRefusal};
 ghost use Rattle.head_call.specs.Tests.{listRefusal, waiterRefusal};
 use crate::Call;
 use crate::InputRefusal;
-use head_anchor::Link;
 use head_anchor::PreparedBal;
 use head_anchor::read_hub::as_prepared;
 

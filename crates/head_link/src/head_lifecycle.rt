@@ -3,7 +3,6 @@ ghost use Rattle.head_driver.specs.Answers.{Replies};
 ghost use Rattle.head_link.specs.Link.{link};
 use hash::Hash;
 use head_anchor::AnchorSlot;
-use head_anchor::Link;
 use head_anchor::ReadAnchor;
 use head_anchor::read_hub::classify_link;
 use head_driver::Answer;

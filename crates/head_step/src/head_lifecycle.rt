@@ -3,7 +3,6 @@ ghost use mathlib.Core.Path.{_≡_};
 ghost use Rattle.head_driver.specs.Answers.{Replies};
 ghost use Rattle.head_step.specs.Dispatch.{dispatch};
 ghost use Rattle.head_step.specs.Steps.{step};
-use head_anchor::Link;
 use head_apply::head_lifecycle::apply;
 use head_call::Call;
 use head_call::InputRefusal;

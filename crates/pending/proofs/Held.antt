@@ -1,12 +1,12 @@
 -- What is held of a line: its first 513 bytes.
-use Prim.Native.Nat.{ℕ, suc, _+_, _≤_, _<_}
+use Prim.Native.Nat.{ℕ, _+_, _≤_, _<_}
 use native.Mathlib.Numerals.{add-one}
 use native.Mathlib.Omega.{arith}
 use mathlib.Core.Bool.{Bool, true, false}
 use mathlib.Core.List.{List, [], _∷_, _++_, append-assoc, append-nil}
 use mathlib.Core.Path.{_≡_, refl, sym, _∙_}
 use lib.Dec.{ltb}
-use lib.ListN.{length, take, set, length-append, length-set}
+use lib.ListN.{length, take, set, length-set}
 use lib.Seq.{length-take-le, take-all, take-append-le, take-suc-set}
 use borrow.Author.Tests.{ltb-true, ltb-false}
 use Rattle.hash.specs.Logic.{if}

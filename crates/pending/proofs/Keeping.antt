@@ -1,19 +1,19 @@
 -- The steps of `feed_among`, `past_blocks`, `feed_at`, `hold` and `keep`.
-use Prim.Native.Nat.{ℕ, zero, suc, _+_, _-_, _≤_, _<_}
+use Prim.Native.Nat.{ℕ, suc, _+_, _-_, _≤_, _<_}
 use native.Mathlib.Nat.{add-zero, add-suc, suc-add}
 use native.Mathlib.Numerals.{add-one}
 use native.Mathlib.Omega.{arith}
 use mathlib.Core.Bool.{Bool, true, false}
-use mathlib.Core.List.{List, [], _∷_, _++_}
+use mathlib.Core.List.{List, [], _∷_}
 use mathlib.Core.Logic.{_≢_}
 use mathlib.Core.Path.{_≡_, refl, ap, sym, _∙_}
 use lib.Dec.{ltb}
 use lib.ListN.{length, take, drop, getD, set, length-append, length-drop, drop-of-length-le, take-append-drop}
 use lib.Seq.{drop-cons, drop-drop, length-take-le, sets, take-all, take-append-seam, take-length, take-nil}
-use borrow.Author.Tests.{eq-eqb, ne-eqb, lt-ltb, le-ltb, ltb-true, ltb-false}
+use borrow.Author.Tests.{eq-eqb, ne-eqb, ltb-true, ltb-false}
 use Rattle.hash.specs.Logic.{if}
 use Rattle.text.specs.Writes.{Wrote}
-use Rattle.pending.specs.Kept.{Keeps, Part, part, hasFeed, keepAll, keepByte, roomFor, throughFeed, toFeed}
+use Rattle.pending.specs.Kept.{Keeps, part, hasFeed, keepAll, keepByte, roomFor, throughFeed, toFeed}
 use Rattle.pending.proofs.Feeds.{feed-front, feed-not-there, feed-there, no-feed, through-feed, to-feed-past}
 
 -- ---- the loop of `feed_among`: one was found, or is to be found in the rest

@@ -2,19 +2,17 @@
 use Prim.Native.Nat.{ℕ, zero, suc, _+_, _-_, _≤_, _<_}
 use native.Mathlib.Nat.{not-suc-le-zero}
 use native.Mathlib.Omega.{arith}
-use mathlib.Core.Bool.{Bool, true, false}
+use mathlib.Core.Bool.{Bool}
 use mathlib.Core.List.{List, [], _∷_, _++_}
-use mathlib.Core.Path.{_≡_, refl, ap, sym, _∙_}
-use lib.Dec.{eqb, leb}
+use mathlib.Core.Path.{_≡_, refl, ap, _∙_}
 use lib.ListN.{length, take, drop, getD, length-append, length-drop}
 use lib.Seq.{take-all, take-append-seam}
 use borrow.Author.Tests.{eq-eqb, le-leb, ne-eqb}
-use Rattle.hash.specs.Logic.{if, both}
-use Rattle.script.specs.Feeds.{Finishes, lastLeaves, lastPrints, lent, reading}
+use Rattle.hash.specs.Logic.{if}
+use Rattle.script.specs.Feeds.{Finishes, lastPrints, lent, reading}
 use Rattle.script.specs.Parts.{Prints, atFront}
 use Rattle.text.specs.Places.{Reads, here}
 use Rattle.text.specs.Rests.{readNumber}
-use Rattle.text.specs.Same.{sameText}
 use Rattle.text.specs.Writes.{Wrote}
 use Rattle.text.proofs.Writes.{then}
 use Rattle.head_driver.specs.declared.Driver.{Driver}

@@ -1,20 +1,19 @@
 -- Any cutting of an input into reads prints what the input prints.
 use Prim.Native.Nat.{ℕ, zero, suc, _≤_, _<_}
-use native.Mathlib.Nat.{le-refl}
 use native.Mathlib.Omega.{arith}
 use mathlib.Core.Bool.{Bool, true, false}
 use mathlib.Core.List.{List, [], _∷_, _++_, append-assoc, append-nil}
 use mathlib.Core.Path.{_≡_, refl, ap, sym, _∙_}
 use lib.Dec.{eqb, ltb}
 use lib.ListN.{length, take}
-use lib.Seq.{length-take-le, take-all, take-nil}
+use lib.Seq.{length-take-le, take-all}
 use borrow.Author.Tests.{lt-ltb, ltb-true, ltb-false, ne-eqb}
 use Rattle.hash.specs.Logic.{if}
 use Rattle.head_driver.specs.New.{new}
-use Rattle.pending.specs.Kept.{Part, keepByte, keepAll, lineSoFar}
+use Rattle.pending.specs.Kept.{keepByte, keepAll, lineSoFar}
 use Rattle.pending.proofs.Held.{Sound, sound-byte, held-line}
 use Rattle.script_call.specs.Calls.{call}
-use Rattle.script.specs.Prints.{prints, leaves}
+use Rattle.script.specs.Prints.{prints}
 use Rattle.head_driver.specs.declared.Driver.{Driver}
 use Rattle.script_call.specs.declared.LineCall.{LineCall}
 use Rattle.script.specs.Scripts.{linesAfter, lines, lastLine, answered, script}

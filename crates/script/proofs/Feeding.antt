@@ -13,7 +13,7 @@ use Rattle.text.proofs.Writes.{nothing, then}
 use Rattle.pending.specs.Kept.{Keeps}
 use Rattle.pending.specs.declared.Kept.{Kept}
 use Rattle.head_driver.specs.declared.Driver.{Driver}
-use Rattle.script.specs.Feeds.{AnswersHeld, Feeds, Reading, TakesSome, reading, allPrints, allTaken, lent, usable}
+use Rattle.script.specs.Feeds.{AnswersHeld, Feeds, Reading, TakesSome, reading, allPrints, allTaken, usable}
 use Rattle.script.specs.declared.Fed.{Fed}
 use Rattle.script.proofs.Cuttings.{taken-append, prints-append}
 use Rattle.script.proofs.Ending.{lent-of}

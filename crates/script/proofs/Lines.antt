@@ -3,15 +3,15 @@ use Prim.Native.Nat.{ℕ, zero, suc, _+_, _-_, _≤_, _<_}
 use native.Mathlib.Nat.{zero-add, suc-add, le-of-suc-le-suc, not-suc-le-zero}
 use native.Mathlib.Omega.{arith}
 use mathlib.Core.Bool.{Bool, true, false}
-use mathlib.Core.List.{List, [], _∷_, _++_, append-nil, append-assoc}
+use mathlib.Core.List.{List, [], _∷_, _++_, append-nil}
 use mathlib.Core.Path.{_≡_, refl, ap, sym, _∙_}
 use lib.Dec.{eqb}
-use lib.ListN.{length, take, drop, length-append, length-drop}
+use lib.ListN.{length, drop, length-append, length-drop}
 use lib.Seq.{slice, take-append-seam}
 use Rattle.hash.specs.Logic.{if}
 use Rattle.pending.specs.Kept.{Keeps, Part, part, keepAll, keepByte, lineSoFar, throughFeed, toFeed}
 use Rattle.pending.proofs.Feeds.{no-feed, through-all, through-feed, through-front, through-some}
-use Rattle.pending.proofs.Held.{Sound, sound-all}
+use Rattle.pending.proofs.Held.{sound-all}
 use Rattle.script_call.specs.Calls.{call}
 use Rattle.script.specs.Prints.{prints}
 use Rattle.text.proofs.Writes.{nothing}

@@ -1,12 +1,12 @@
 -- What a part of a buffer is left with, as part of the buffer.
 use Prim.Native.Nat.{ℕ, _+_, _-_, _^_, _≤_, _<_}
 use native.Mathlib.Omega.{arith}
-use mathlib.Core.List.{List, [], _++_, append-assoc, append-nil}
-use mathlib.Core.Path.{_≡_, refl, ap, sym, _∙_}
+use mathlib.Core.List.{List, _++_, append-assoc, append-nil}
+use mathlib.Core.Path.{_≡_, ap, sym, _∙_}
 use lib.ListN.{length, take, drop, length-append, length-drop, drop-of-length-le}
 use mir.Syntax.{w64}
 use mir.Val.{Fits}
-use lib.Seq.{drop-drop, sets-eq, take-all, length-take-le}
+use lib.Seq.{drop-drop, sets-eq, take-all}
 use Rattle.script_call.specs.Calls.{call}
 use Rattle.script.specs.Parts.{Prints, atFront}
 use Rattle.script.specs.Prints.{leaves, prints}

@@ -1,11 +1,11 @@
 -- An input byte by byte. The bytes of the line that has not ended are kept, at most 513 of them, at the front of a buffer.
 use Prim.Native.Nat.{ℕ, _+_, _≤_, _<_}
-use mathlib.Core.Bool.{Bool, true, false}
+use mathlib.Core.Bool.{Bool, false}
 use mathlib.Core.List.{List, [], _∷_, _++_}
 use mathlib.Core.Logic.{_⊎_}
 use mathlib.Core.Path.{_≡_}
 use lib.Dec.{eqb, leb}
-use lib.ListN.{length, take, drop}
+use lib.ListN.{length, take}
 use Rattle.hash.specs.Logic.{if, both}
 use Rattle.pending.specs.Kept.{Part, part, keepByte, lineSoFar}
 use Rattle.script_call.specs.Calls.{call}

@@ -21,7 +21,6 @@ use Rattle.hash_text.specs.declared.HashWord.{HashWord}
 use Rattle.script_call.specs.Values.{blockHashGot, readBlockHash, readAnchor, readSlot, spacedNumber, readFailure, readSkip, spacedHash, spacedAnchor, spacedSlot, spacedSkip}
 use Rattle.script_call.specs.declared.anchor.AnchorFrom.{AnchorFrom}
 use Rattle.script_call.specs.declared.anchor.BlockHashFrom.{BlockHashFrom}
-use Rattle.script_call.specs.declared.anchor.SlotFrom.{SlotFrom}
 use Rattle.script_call.specs.declared.skip.SkipFrom.{SkipFrom}
 
 -- ---- after one space

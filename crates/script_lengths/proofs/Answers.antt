@@ -1,10 +1,10 @@
 -- How long an answer's line can be.
 use Prim.Native.Nat.{ℕ, _≤_}
 use native.Mathlib.Omega.{arith}
-use mathlib.Core.List.{List, _++_}
+use mathlib.Core.List.{_++_}
 use mathlib.Core.Path.{_≡_, refl}
 use lib.ListN.{length, length-append}
-use Rattle.head_driver.specs.Answers.{outcomeSaid, said, statsValues}
+use Rattle.head_driver.specs.Answers.{outcomeSaid, said}
 use Rattle.script_answer.specs.Answers.{answerLine}
 use Rattle.script_answer.specs.Lines.{answerText, refusalOn, saidText}
 use Rattle.script_outcome.specs.Texts.{endText, linkText, outcomeText, readinessText, reportText, sourceText}

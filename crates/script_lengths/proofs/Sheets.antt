@@ -1,13 +1,12 @@
 -- How long a sheet can be.
 use Prim.Native.Nat.{ℕ, zero, suc, _+_, _≤_}
 use native.Mathlib.Omega.{arith}
-use mathlib.Core.List.{List, [], _∷_, _++_}
+use mathlib.Core.List.{List, [], _∷_}
 use mathlib.Core.Path.{_≡_, refl}
 use lib.ListN.{length, length-append}
-use Rattle.alike.specs.Canon.{canon, shownLife, shownWaiters}
-use Rattle.script_outcome.specs.Texts.{reportText}
+use Rattle.alike.specs.Canon.{shownLife}
 use Rattle.script_sheet.proofs.Shown.{sheet-shown}
-use Rattle.script_sheet.specs.Sheets.{lifeLines, sheetText}
+use Rattle.script_sheet.specs.Sheets.{lifeLines}
 use Rattle.sheet_lines.specs.Lines.{countLine, currentLine, deliveryText, generationText, installedLine, poseText, previousLine, supersededLine, unsettledText, waiterLine, waiterLines}
 use Rattle.text.specs.Decimals.{decimal, decimalOn}
 use Rattle.head_count.specs.declared.Epoch.{Epoch}
@@ -18,7 +17,6 @@ use Rattle.head_attempt.specs.declared.WaiterSlot.{WaiterSlot}
 use Rattle.head_current.specs.declared.CurrentHead.{CurrentHead}
 use Rattle.head_current.specs.declared.HeadDelivery.{HeadDelivery}
 use Rattle.head_current.specs.declared.UnsettledHead.{UnsettledHead}
-use Rattle.head_driver.specs.declared.Driver.{Driver}
 use Rattle.head_ready.specs.declared.GenerationSlot.{GenerationSlot}
 use Rattle.head_life.specs.declared.HeadLifecycle.{HeadLifecycle}
 use Rattle.value_text.specs.declared.page.Page.{Page}

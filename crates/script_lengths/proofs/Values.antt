@@ -1,7 +1,7 @@
 -- How long a value's text can be.
 use Prim.Native.Nat.{ℕ, _≤_}
 use native.Mathlib.Omega.{arith}
-use mathlib.Core.List.{List, _++_}
+use mathlib.Core.List.{_++_}
 use mathlib.Core.Path.{_≡_, refl}
 use lib.ListN.{length, length-append}
 use Rattle.hash_text.proofs.Back.{length-line-hash, length-sheet-hash}

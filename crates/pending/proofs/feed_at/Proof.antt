@@ -1,6 +1,6 @@
 -- The loop passes the bytes before the line feed.
 use Prim.Native.Nat.{_+_, _-_}
-use mathlib.Core.Path.{_≡_, refl}
+use mathlib.Core.Path.{_≡_}
 use lib.ListN.{length, drop}
 use borrow.Author.Needs.{needs}
 use Rattle.pending.specs.Kept.{toFeed}

@@ -1,4 +1,3 @@
-use mathlib.Core.Path.{refl}
 use Rattle.script_edges.proofs.afresh.Statement.{statement}
 use Rattle.script_edges.proofs.afresh.Tie as tie
 

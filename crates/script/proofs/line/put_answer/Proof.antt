@@ -1,5 +1,4 @@
 -- A sheet stands in the buffer already; every other answer's line is put by one call.
-use mathlib.Core.Path.{refl}
 use borrow.Author.Needs.{needs}
 use Rattle.script.specs.Parts.{answerLength}
 use Rattle.script.proofs.Printing.{puts-line, puts-sheet}
