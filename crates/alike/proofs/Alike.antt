@@ -11,7 +11,6 @@ use Rattle.head_apply.specs.Apply.{apply, applyAs, settleAs}
 use Rattle.head_attempt.specs.Attempts.{firstEnd, publish, settled}
 use Rattle.head_current.specs.Heads.{anchorOf, delivery, ticketOf}
 use Rattle.head_reads.specs.Reports.{lastReport}
-use Rattle.head_waits.specs.Parts.{preparingAt, join, put, resumeAs, viewedBy, waitAs, waiterAt}
 use Rattle.head_completion.specs.Ends.{published, endAt}
 use Rattle.head_deliver.specs.Delivered.{unsettled, delivered, replaced}
 use Rattle.head_settle.specs.Settles.{abandonment, isAbandoned, settledHead, settlingEpoch, settle}
@@ -19,13 +18,10 @@ use Rattle.head_claim.specs.Claimed.{claimedHead, claimed}
 use Rattle.head_release.specs.Owners.{ownedBy}
 use Rattle.head_release.specs.Released.{releasedHead, released}
 use Rattle.head_driver.specs.Parts.{wakeCurrent, endingWith, replyOf, withLife}
-use Rattle.head_claim.specs.Claim.{claim}
-use Rattle.head_deliver.specs.Deliver.{deliver}
+use Rattle.head_claim.specs.Claim.{claim, claimAs}
+use Rattle.head_deliver.specs.Deliver.{deliver, deliverAs}
 use Rattle.head_release.specs.Release.{release}
-use Rattle.head_snapshot.specs.Snapshot.{snapshot}
-use Rattle.head_snapshot.specs.Parts.{viewed}
-use Rattle.head_claim.specs.Parts.{claimAs}
-use Rattle.head_deliver.specs.Parts.{deliverAs}
+use Rattle.head_snapshot.specs.Snapshot.{snapshot, viewed}
 use Rattle.head_plan.specs.Plans.{planAt, planHeld, planApply}
 use Rattle.head_claim.specs.Starts.{claimStartAt, claimStart}
 use Rattle.head_ready.specs.Generations.{slotAnchor}
@@ -37,7 +33,7 @@ use Rattle.head_step.proofs.Asked.{asked}
 use Rattle.head_step.specs.Dispatch.{dispatch}
 use Rattle.head_step.specs.Steps.{step}
 use Rattle.head_snapshot.specs.Views.{currentView, generationView, provisionalView, spareView, view}
-use Rattle.head_waits.specs.Calls.{resume, wait}
+use Rattle.head_waits.specs.Calls.{join, preparingAt, put, resume, resumeAs, viewedBy, wait, waitAs, waiterAt}
 use Rattle.hash.specs.declared.Hash.{Hash}
 use Rattle.head_anchor.specs.declared.BalSkip.{BalSkip}
 use Rattle.head_anchor.specs.declared.CarryOutcome.{CarryOutcome}
@@ -56,7 +52,7 @@ use Rattle.head_current.specs.declared.HeadDelivery.{HeadDelivery}
 use Rattle.head_current.specs.declared.HeadTicket.{HeadTicket}
 use Rattle.head_current.specs.declared.LastReport.{LastReport}
 use Rattle.head_current.specs.declared.PrepareClaim.{PrepareClaim}
-use Rattle.head_deliver.specs.declared.head_lifecycle.Redelivery.{Redelivery}
+use Rattle.head_deliver.specs.declared.head_lifecycle.Repeat.{Repeat}
 use Rattle.head_current.specs.declared.UnsettledHead.{UnsettledHead}
 use Rattle.head_driver.specs.declared.Answer.{Answer}
 use Rattle.head_driver.specs.declared.Driver.{Driver}
@@ -231,10 +227,10 @@ module _ (i p : GenerationSlot) (n : Seq) (e : Epoch) (t : HeadStats) (ws : List
     both-reply : (x : Answer) → Both (replyOf d₁ x) (replyOf d₂ x)
     both-reply x = record { answer = refl; driver = alike w m }
 
-    both-deliver : (a : ReadAnchor) (q : Hash) (cold : ℕ) (r : Redelivery) → Both (deliverAs d₁ a q cold r) (deliverAs d₂ a q cold r)
+    both-deliver : (a : ReadAnchor) (q : Hash) (cold : ℕ) (r : Repeat) → Both (deliverAs d₁ a q cold r) (deliverAs d₂ a q cold r)
     unfolding deliverAs withLife counted
-    both-deliver a q cold Redelivery.New = record { answer = refl; driver = alike-delivered s₁ s₂ w m a q cold }
-    both-deliver a q cold (Redelivery.Of k) = record { answer = refl; driver = alike w m }
+    both-deliver a q cold Repeat.New = record { answer = refl; driver = alike-delivered s₁ s₂ w m a q cold }
+    both-deliver a q cold (Repeat.Of k) = record { answer = refl; driver = alike w m }
 
     both-claim : (x : ClaimStart) → Both (claimAs d₁ x) (claimAs d₂ x)
     unfolding claimAs

@@ -12,13 +12,12 @@ use Rattle.head_apply.specs.Apply.{apply, applyAs, settleAs}
 use Rattle.head_attempt.specs.Attempts.{minted}
 use Rattle.head_count.specs.Counters.{sameEpoch, sameSeq}
 use Rattle.head_current.specs.Heads.{anchorOf, delivery}
-use Rattle.head_deliver.specs.Repeats.{redelivery, repeats, sameDelivery}
+use Rattle.head_deliver.specs.Repeats.{repeatOf, repeats, sameDelivery}
 use Rattle.head_release.specs.Owners.{ownedBy, owns}
 use Rattle.head_settle.specs.Settles.{settledHead, settlingEpoch, settle}
 use Rattle.head_driver.specs.Parts.{wakeCurrent, endingWith}
-use Rattle.head_deliver.specs.Deliver.{deliver}
+use Rattle.head_deliver.specs.Deliver.{deliver, deliverAs}
 use Rattle.head_release.specs.Release.{release}
-use Rattle.head_deliver.specs.Parts.{deliverAs}
 use Rattle.head_plan.specs.Plans.{planHeld, planApply}
 use Rattle.head_release.specs.Released.{released}
 use Rattle.head_deliver.specs.Delivered.{delivered, deliveredAt}
@@ -39,7 +38,7 @@ use Rattle.head_current.specs.declared.CurrentHead.{CurrentHead}
 use Rattle.head_current.specs.declared.DeliverySlot.{DeliverySlot}
 use Rattle.head_current.specs.declared.HeadDelivery.{HeadDelivery}
 use Rattle.head_current.specs.declared.LastReport.{LastReport}
-use Rattle.head_deliver.specs.declared.head_lifecycle.Redelivery.{Redelivery}
+use Rattle.head_deliver.specs.declared.head_lifecycle.Repeat.{Repeat}
 use Rattle.head_current.specs.declared.UnsettledHead.{UnsettledHead}
 use Rattle.head_driver.specs.declared.Driver.{Driver}
 use Rattle.head_ready.specs.declared.GenerationSlot.{GenerationSlot}
@@ -111,8 +110,8 @@ abbrev pub delivering : ReadAnchor → Call
 delivering a = Call.Deliver a zeros 0
 
 -- a delivery of another anchor than the current one is new
-not-repeated : (s : DeliverySlot) (a : ReadAnchor) (p : Hash) → holds (anchorOf s) a ≡ false → repeats s a p ≡ Redelivery.New
-unfolding repeats redelivery sameDelivery anchorOf holds
+not-repeated : (s : DeliverySlot) (a : ReadAnchor) (p : Hash) → holds (anchorOf s) a ≡ false → repeats s a p ≡ Repeat.New
+unfolding repeats repeatOf sameDelivery anchorOf holds
 not-repeated DeliverySlot.Nothing a p e = refl
 not-repeated (DeliverySlot.Held held) a p e = rw e refl
 

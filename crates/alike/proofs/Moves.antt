@@ -8,16 +8,12 @@ use Rattle.head_anchor.specs.Lists.{applyPrepared, asPrepared}
 use Rattle.head_apply.specs.Apply.{apply, applyAs, settleAs}
 use Rattle.head_count.specs.Counters.{nextEpoch, raise, recordView}
 use Rattle.head_current.specs.Heads.{delivery, ticketOf}
-use Rattle.head_waits.specs.Parts.{preparingAt, join, put, resumeAs, viewedBy, waitAs}
 use Rattle.head_release.specs.Owners.{ownedBy}
-use Rattle.head_claim.specs.Claim.{claim}
-use Rattle.head_deliver.specs.Deliver.{deliver}
+use Rattle.head_claim.specs.Claim.{claim, claimAs}
+use Rattle.head_deliver.specs.Deliver.{deliver, deliverAs}
 use Rattle.head_release.specs.Release.{release}
-use Rattle.head_snapshot.specs.Snapshot.{snapshot}
+use Rattle.head_snapshot.specs.Snapshot.{snapshot, viewed}
 use Rattle.head_driver.specs.Parts.{endingWith, withLife}
-use Rattle.head_snapshot.specs.Parts.{viewed}
-use Rattle.head_claim.specs.Parts.{claimAs}
-use Rattle.head_deliver.specs.Parts.{deliverAs}
 use Rattle.head_plan.specs.Plans.{planAt, planHeld, planApply}
 use Rattle.head_settle.specs.Settles.{settle}
 use Rattle.head_claim.specs.Starts.{claimGate, claimStartAt, claimStart}
@@ -32,7 +28,7 @@ use Rattle.head_link.specs.Link.{link}
 use Rattle.head_step.proofs.Asked.{asked}
 use Rattle.head_step.specs.Dispatch.{dispatch}
 use Rattle.head_step.specs.Steps.{step}
-use Rattle.head_waits.specs.Calls.{resume, wait}
+use Rattle.head_waits.specs.Calls.{join, preparingAt, put, resume, resumeAs, viewedBy, wait, waitAs}
 use Rattle.hash.specs.declared.Hash.{Hash}
 use Rattle.head_anchor.specs.declared.PreparedBal.{PreparedBal}
 use Rattle.head_anchor.specs.declared.AnchorSlot.{AnchorSlot}
@@ -45,7 +41,7 @@ use Rattle.head_current.specs.declared.DeliverySlot.{DeliverySlot}
 use Rattle.head_current.specs.declared.HeadDelivery.{HeadDelivery}
 use Rattle.head_current.specs.declared.HeadTicket.{HeadTicket}
 use Rattle.head_current.specs.declared.PrepareClaim.{PrepareClaim}
-use Rattle.head_deliver.specs.declared.head_lifecycle.Redelivery.{Redelivery}
+use Rattle.head_deliver.specs.declared.head_lifecycle.Repeat.{Repeat}
 use Rattle.head_current.specs.declared.UnsettledHead.{UnsettledHead}
 use Rattle.head_driver.specs.declared.Driver.{Driver}
 use Rattle.head_driver.specs.declared.Reply.{Reply}
@@ -123,10 +119,10 @@ module _ (d : Driver) (c : Call) where
   release-move owner = by-if (Leaves d c) (ownedBy (d .life .current) owner) _ _ (λ e. released-move (d .life .current) owner refl e) (λ e. none)
 
 -- a delivery of what is current repeats it; any other replaces it
-deliver-move : (d : Driver) (a : ReadAnchor) (p : Hash) (cold : ℕ) (r : Redelivery) → Leaves d (Call.Deliver a p cold) (deliverAs d a p cold r)
+deliver-move : (d : Driver) (a : ReadAnchor) (p : Hash) (cold : ℕ) (r : Repeat) → Leaves d (Call.Deliver a p cold) (deliverAs d a p cold r)
 unfolding deliverAs raise
-deliver-move d a p cold Redelivery.New = delivers a p cold
-deliver-move d a p cold (Redelivery.Of n) = counts Counter.Repeated refl
+deliver-move d a p cold Repeat.New = delivers a p cold
+deliver-move d a p cold (Repeat.Of n) = counts Counter.Repeated refl
 
 module _ (d : Driver) (ticket : HeadTicket) (list : PreparedBal) (handle carried made : ℕ) where
   abbrev Applies : ApplyPlan → Type 0

@@ -8,13 +8,10 @@ use Rattle.head_anchor.specs.Anchors.{holds}
 use Rattle.head_count.specs.Counters.{nextSeq, sameSeq}
 use Rattle.head_current.specs.Heads.{anchorOf, delivery, ticketOf}
 use Rattle.head_completion.specs.Ends.{published, endAt}
-use Rattle.head_deliver.specs.Repeats.{redelivery, repeats, sameDelivery}
-use Rattle.head_claim.specs.Claim.{claim}
-use Rattle.head_deliver.specs.Deliver.{deliver}
-use Rattle.head_snapshot.specs.Snapshot.{snapshot}
-use Rattle.head_snapshot.specs.Parts.{viewed}
-use Rattle.head_claim.specs.Parts.{claimAs}
-use Rattle.head_deliver.specs.Parts.{deliverAs}
+use Rattle.head_deliver.specs.Repeats.{repeatOf, repeats, sameDelivery}
+use Rattle.head_claim.specs.Claim.{claim, claimAs}
+use Rattle.head_deliver.specs.Deliver.{deliver, deliverAs}
+use Rattle.head_snapshot.specs.Snapshot.{snapshot, viewed}
 use Rattle.head_claim.specs.Starts.{claimGate, claimStart}
 use Rattle.head_ready.specs.Generations.{slotAnchor}
 use Rattle.head_completion.specs.Completion.{completion}
@@ -103,7 +100,7 @@ module _ (d : Driver) (v : Ordered (d .life)) where
   -- a delivery of the current anchor tells whether its parent hash is the current one
   pub deliver-answers : (held : HeadDelivery) → delivery (d .life .current) ≡ DeliverySlot.Held held → (a : ReadAnchor) → held .anchor ≡ a → (p : Hash) (cold : ℕ)
       → deliver d a p cold .answer ≡ Answer.Ticket (if (sameHash (held .«parent_hash») p) (d .life .seq) (nextSeq (d .life .seq)))
-  unfolding deliver repeats redelivery sameDelivery deliverAs
+  unfolding deliver repeats repeatOf sameDelivery deliverAs
   deliver-answers held q a e p cold =
       let n : held .seq ≡ d .life .seq = rw q at (v .seq-current) in
       rw (q, anchor-same (held .anchor) a e, n) (by-test (sameHash (held .«parent_hash») p) (λ t. rw t refl) (λ f. rw f refl))

@@ -12,15 +12,12 @@ use Rattle.hash.specs.Logic.{if}
 use Rattle.head_anchor.specs.Anchors.{holds, sameAnchor}
 use Rattle.head_attempt.specs.Waiters.{slotOf, woken}
 use Rattle.head_current.specs.Heads.{anchorOf, delivery}
-use Rattle.head_waits.specs.Parts.{preparingAt, abandonedView, join, resumeAs, unowned, viewedBy, waiterAt}
-use Rattle.head_deliver.specs.Repeats.{redelivery, repeats, sameDelivery}
+use Rattle.head_deliver.specs.Repeats.{repeatOf, repeats, sameDelivery}
 use Rattle.head_claim.specs.Claimed.{claimedHead, claimed}
 use Rattle.head_driver.specs.Parts.{wakeCurrent, endingWith, withLife}
-use Rattle.head_claim.specs.Claim.{claim}
-use Rattle.head_deliver.specs.Deliver.{deliver}
-use Rattle.head_snapshot.specs.Parts.{viewed}
-use Rattle.head_claim.specs.Parts.{claimAs}
-use Rattle.head_deliver.specs.Parts.{deliverAs}
+use Rattle.head_claim.specs.Claim.{claim, claimAs}
+use Rattle.head_deliver.specs.Deliver.{deliver, deliverAs}
+use Rattle.head_snapshot.specs.Snapshot.{viewed}
 use Rattle.head_claim.specs.Starts.{claimGate, claimStart}
 use Rattle.head_release.specs.Released.{released}
 use Rattle.head_deliver.specs.Delivered.{delivered, newHead}
@@ -28,7 +25,7 @@ use Rattle.head_ready.specs.Generations.{isReady}
 use Rattle.head_life.specs.State.{counted}
 use Rattle.head_step.specs.Dispatch.{dispatch}
 use Rattle.head_snapshot.specs.Views.{generationView, spareView, view, viewOf}
-use Rattle.head_waits.specs.Calls.{resume}
+use Rattle.head_waits.specs.Calls.{abandonedView, join, preparingAt, resume, resumeAs, unowned, viewedBy, waiterAt}
 use Rattle.hash.specs.declared.Hash.{Hash}
 use Rattle.head_anchor.specs.declared.AnchorSlot.{AnchorSlot}
 use Rattle.head_anchor.specs.declared.ReadAnchor.{ReadAnchor}
@@ -38,7 +35,7 @@ use Rattle.head_attempt.specs.declared.Waiter.{Waiter}
 use Rattle.head_attempt.specs.declared.WaiterSlot.{WaiterSlot}
 use Rattle.head_current.specs.declared.CurrentHead.{CurrentHead}
 use Rattle.head_current.specs.declared.DeliverySlot.{DeliverySlot}
-use Rattle.head_deliver.specs.declared.head_lifecycle.Redelivery.{Redelivery}
+use Rattle.head_deliver.specs.declared.head_lifecycle.Repeat.{Repeat}
 use Rattle.head_current.specs.declared.UnsettledHead.{UnsettledHead}
 use Rattle.head_driver.specs.declared.Answer.{Answer}
 use Rattle.head_driver.specs.declared.Driver.{Driver}
@@ -166,20 +163,20 @@ record Delivered (d : Driver) (a : ReadAnchor) (e : Driver) : Type 0 where
   anchors : currentAnchor e ≡ AnchorSlot.At a
   keeps : (n : ℕ) → NotParked (waiterAt (d .waiters) n) → waiterAt (e .waiters) n ≡ waiterAt (d .waiters) n
 
-repeated-anchor : (s : DeliverySlot) (a : ReadAnchor) (p : Hash) (n : Seq) → repeats s a p ≡ Redelivery.Of n → anchorOf s ≡ AnchorSlot.At a
-unfolding repeats redelivery sameDelivery anchorOf
+repeated-anchor : (s : DeliverySlot) (a : ReadAnchor) (p : Hash) (n : Seq) → repeats s a p ≡ Repeat.Of n → anchorOf s ≡ AnchorSlot.At a
+unfolding repeats repeatOf sameDelivery anchorOf
 repeated-anchor DeliverySlot.Nothing a p n e = let z : _≡_ {A = ℕ} 0 1 = cc in absurd (omega arith)
 repeated-anchor (DeliverySlot.Held held) a p n e = by-test (sameAnchor (held .anchor) a)
     (λ t. ap AnchorSlot.At (same-anchor _ _ t))
     (λ f.
-    let q : Redelivery.New ≡ Redelivery.Of n = rw f at e in
+    let q : Repeat.New ≡ Repeat.Of n = rw f at e in
     let z : _≡_ {A = ℕ} 0 1 = cc in
     absurd (omega arith))
 
-deliver-as : (d : Driver) → Ordered (d .life) → (a : ReadAnchor) → holds (installedAnchor d) a ≡ false → (r : Redelivery) → repeats (delivery (d .life .current)) a zeros ≡ r → Delivered d a (deliverAs d a zeros 0 r .driver)
+deliver-as : (d : Driver) → Ordered (d .life) → (a : ReadAnchor) → holds (installedAnchor d) a ≡ false → (r : Repeat) → repeats (delivery (d .life .current)) a zeros ≡ r → Delivered d a (deliverAs d a zeros 0 r .driver)
 unfolding deliverAs delivered newHead delivery anchorOf withLife counted
-deliver-as d v a o Redelivery.New q = rw o (record { unsettles = tt; anchors = refl; keeps = λ n z. ending-at HeadCompletion.Superseded (d .life .current) (d .waiters) n z })
-deliver-as d v a o (Redelivery.Of k) q =
+deliver-as d v a o Repeat.New q = rw o (record { unsettles = tt; anchors = refl; keeps = λ n z. ending-at HeadCompletion.Superseded (d .life .current) (d .waiters) n z })
+deliver-as d v a o (Repeat.Of k) q =
     let c = repeated-anchor (delivery (d .life .current)) a zeros k q in
     record {
       unsettles = by-pose (pose (d .life .current)) (λ u. u) (λ n. true-false (same-holds _ _ (sym (settled-anchor (d .life) v _ refl n) ∙ c)) o);

@@ -1,4 +1,4 @@
--- What every driver keeps, whatever calls it gets: the state's own rules, I1 to I10 of the design, and the ranges of its numbers. Drivers built from a sheet keep it too, so no
+-- What every driver keeps, whatever calls it gets: the state's own rules, I1 to I10, and the ranges of its numbers. What a sheet shows, taken as a driver, keeps it too, so no
 -- more than this may be used of a driver.
 use Prim.Native.Nat.{_+_, _≤_}
 use mathlib.Core.Bool.{false}

@@ -1,4 +1,4 @@
--- Lists of calls: each call gets the state that the one before it left.
+-- Document 01, "What contracts say, what cases show", of calls in place of lines: each call gets the state that the one before it left.
 use mathlib.Core.List.{List, [], _∷_}
 use Rattle.head_call.specs.Ranges.{Writable}
 use Rattle.head_step.specs.Steps.{step}

@@ -15,11 +15,9 @@ use Rattle.head_driver.specs.New
 use Rattle.head_driver.specs.Parts as DriverParts
 use Rattle.head_deliver.specs.Deliver
 use Rattle.head_deliver.specs.Delivered
-use Rattle.head_deliver.specs.Parts as DeliverParts
 use Rattle.head_deliver.specs.Repeats
 use Rattle.head_claim.specs.Claim
 use Rattle.head_claim.specs.Claimed
-use Rattle.head_claim.specs.Parts as ClaimParts
 use Rattle.head_claim.specs.Starts
 use Rattle.head_release.specs.Owners
 use Rattle.head_release.specs.Release
@@ -27,11 +25,9 @@ use Rattle.head_release.specs.Released
 use Rattle.head_plan.specs.Plans
 use Rattle.head_settle.specs.Settles
 use Rattle.head_apply.specs.Apply
-use Rattle.head_snapshot.specs.Parts as ViewParts
 use Rattle.head_snapshot.specs.Snapshot
 use Rattle.head_snapshot.specs.Views
 use Rattle.head_waits.specs.Calls as WaitCalls
-use Rattle.head_waits.specs.Parts as WaitParts
 use Rattle.head_completion.specs.Completion
 use Rattle.head_completion.specs.Ends
 use Rattle.head_link.specs.Link
@@ -73,8 +69,8 @@ anchors = tt
 -- counters, attempts, waiters and the current head
 unfoldable heads : Unit {0}
 unfolding Attempts.minted Attempts.settled Attempts.firstEnd Attempts.publish Counters.up Counters.nextSeq Counters.nextEpoch Counters.sameSeq Counters.sameEpoch
-    Counters.noneCounted Counters.raise Counters.recordView Waiters.woken Waiters.wake Heads.delivery Heads.anchorOf Repeats.sameDelivery Repeats.redelivery
-    Repeats.repeats Heads.ticketOf Ends.published Delivered.unsettled WaitParts.preparingAt Reports.lastReport Claimed.claimedHead Owners.owns Owners.ownedBy
+    Counters.noneCounted Counters.raise Counters.recordView Waiters.woken Waiters.wake Heads.delivery Heads.anchorOf Repeats.sameDelivery Repeats.repeatOf
+    Repeats.repeats Heads.ticketOf Ends.published Delivered.unsettled WaitCalls.preparingAt Reports.lastReport Claimed.claimedHead Owners.owns Owners.ownedBy
     Released.releasedHead Settles.abandonment Settles.settlingEpoch Settles.settledHead DriverParts.wakeCurrent
 heads = tt
 
@@ -89,9 +85,9 @@ life = tt
 -- the calls
 unfoldable calls : Unit {0}
 unfolding Said.readinessValue Said.sourceValue Said.endValue Said.reportValue Said.statsValues Said.outcomeSaid Said.said Deliver.deliver Claim.claim Release.release
-    Snapshot.snapshot DriverParts.withLife DeliverParts.deliverAs ClaimParts.claimAs ViewParts.viewed Apply.apply Apply.settleAs Apply.applyAs WaitCalls.wait
-    WaitCalls.resume WaitParts.unownedReason WaitParts.unownedReadiness WaitParts.unowned WaitParts.abandonedView WaitParts.waiterAt WaitParts.put WaitParts.viewedBy
-    WaitParts.join WaitParts.waitAs WaitParts.resumeAs New.new Completion.completion Link.link ReadCalls.report ReadCalls.stats ReadCalls.heads Tests.listRefusal
+    Snapshot.snapshot DriverParts.withLife Deliver.deliverAs Claim.claimAs Snapshot.viewed Apply.apply Apply.settleAs Apply.applyAs WaitCalls.wait
+    WaitCalls.resume WaitCalls.unownedReason WaitCalls.unownedReadiness WaitCalls.unowned WaitCalls.abandonedView WaitCalls.waiterAt WaitCalls.put WaitCalls.viewedBy
+    WaitCalls.join WaitCalls.waitAs WaitCalls.resumeAs New.new Completion.completion Link.link ReadCalls.report ReadCalls.stats ReadCalls.heads Tests.listRefusal
     Tests.waiterRefusal Dispatch.dispatch Inputs.inputNumber Inputs.inputRefusal Steps.step
 calls = tt
 
@@ -123,7 +119,7 @@ answers = tt
 -- what a sheet shows, and its lines
 unfoldable sheets : Unit {0}
 unfolding Canon.masked Canon.maskBy Canon.shownSuperseded Canon.shownHead Canon.shownWaiter Canon.shownWaiters Canon.shownLife Canon.canon SheetLines.countLine
-    SheetLines.poseText SheetLines.deliveryText SheetLines.unsettledText SheetLines.currentLine SheetLines.supersededLine SheetLines.generationText
+    SheetLines.unclaimedEndText SheetLines.deliveryText SheetLines.unsettledText SheetLines.currentLine SheetLines.supersededLine SheetLines.generationText
     SheetLines.installedLine SheetLines.previousLine SheetLines.waiterLine SheetLines.waiterLines Sheets.lifeLines Sheets.linesOf Sheets.sheetText
 sheets = tt
 

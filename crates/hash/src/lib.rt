@@ -1,4 +1,5 @@
-// A hash of 32 bytes: alloy's `B256`. Knows nothing of what it is the hash of, nor of its text.
+// A hash of 32 bytes: alloy's `B256`; and, as the lowest crate, `both` and the choice by a test that all the others use.
+// Knows nothing of what it is the hash of, nor of its text.
 ghost use mathlib.Core.Path.{_≡_};
 ghost use Rattle.hash.specs.Logic.{both};
 ghost use Rattle.hash.specs.Hashes.{sameHash};

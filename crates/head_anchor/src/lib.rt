@@ -1,5 +1,5 @@
 // Anchors, the link test, prepared lists and their outcome: what of a block decides whether its parent's values carry over.
-// Knows nothing of a head, a counter, a waiter or a line of text.
+// Its code knows nothing of a head, a counter, a waiter or a line of text; its definitions hold the words and the kinds of values that answers say.
 use hash::Hash;
 
 pub mod delta_snapshot;

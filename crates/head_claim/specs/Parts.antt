@@ -1,8 +1,6 @@
--- A claim by what it starts, and what it starts by what was delivered: definitions for the ways of the code.
-use Rattle.head_claim.specs.Claimed.{claimed}
+-- What a claim starts, by what was delivered: definitions for the ways of the code.
 use Rattle.head_claim.specs.Starts.{claimGate}
 use Rattle.head_count.specs.Counters.{nextEpoch}
-use Rattle.head_driver.specs.Parts.{replyOf, withLife}
 use Rattle.head_ready.specs.Refusals.{refused-11, refused-13, refused-14}
 use Rattle.head_anchor.specs.declared.AnchorSlot.{AnchorSlot}
 use Rattle.head_claim.specs.declared.head_lifecycle.ClaimStart.{ClaimStart}
@@ -10,9 +8,6 @@ use Rattle.head_count.specs.declared.Epoch.{Epoch}
 use Rattle.head_current.specs.declared.CurrentHead.{CurrentHead}
 use Rattle.head_current.specs.declared.DeliverySlot.{DeliverySlot}
 use Rattle.head_current.specs.declared.HeadTicket.{HeadTicket}
-use Rattle.head_driver.specs.declared.Answer.{Answer}
-use Rattle.head_driver.specs.declared.Driver.{Driver}
-use Rattle.head_driver.specs.declared.Reply.{Reply}
 
 -- what a head's state allows; of no head nobody asks
 unfoldable pub claimNext : CurrentHead → Epoch → ClaimStart
@@ -24,7 +19,3 @@ claimNext (CurrentHead.Settled s) e = ClaimStart.Refused refused-13
 unfoldable pub startOf : AnchorSlot → Epoch → CurrentHead → HeadTicket → DeliverySlot → ClaimStart
 startOf installed e current ticket DeliverySlot.Nothing = ClaimStart.Refused (refused-11 (ticket .anchor))
 startOf installed e current ticket (DeliverySlot.Held held) = claimGate installed held ticket (claimNext current e)
-
-unfoldable pub claimAs : Driver → ClaimStart → Reply
-claimAs d (ClaimStart.Claimed e) = replyOf (withLife d (claimed (d .life) e)) (Answer.Claimed e)
-claimAs d (ClaimStart.Refused o) = replyOf d (Answer.Outcome o)

@@ -1,8 +1,8 @@
 // From head_lifecycle.rs: `ClaimStart`, `HeadLifecycle::claim`, `CurrentHead::claimed`, and the claim of `advance_with_relevance`.
 ghost use mathlib.Core.Path.{_≡_};
-ghost use Rattle.head_claim.specs.Claim.{claim};
+ghost use Rattle.head_claim.specs.Claim.{claim, claimAs};
 ghost use Rattle.head_claim.specs.Claimed.{claimed, claimedHead};
-ghost use Rattle.head_claim.specs.Parts.{claimAs, claimNext, startOf};
+ghost use Rattle.head_claim.specs.Parts.{claimNext, startOf};
 ghost use Rattle.head_claim.specs.Starts.{claimGate, claimStart};
 ghost use Rattle.head_current.specs.Heads.{delivery};
 ghost use Rattle.head_driver.specs.Answers.{Replies};

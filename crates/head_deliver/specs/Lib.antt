@@ -1,5 +1,4 @@
--- Document 01, "Lifecycle": `deliver`. All but Parts is the paper's.
+-- Document 01, "Lifecycle": `deliver`.
 pub mod Repeats
 pub mod Delivered
-pub mod Parts
 pub mod Deliver

@@ -7,16 +7,16 @@ use Rattle.hash.specs.declared.Hash.{Hash}
 use Rattle.head_anchor.specs.declared.ReadAnchor.{ReadAnchor}
 use Rattle.head_current.specs.declared.DeliverySlot.{DeliverySlot}
 use Rattle.head_current.specs.declared.HeadDelivery.{HeadDelivery}
-use Rattle.head_deliver.specs.declared.head_lifecycle.Redelivery.{Redelivery}
+use Rattle.head_deliver.specs.declared.head_lifecycle.Repeat.{Repeat}
 
 -- same anchor and parent hash
 unfoldable pub sameDelivery : HeadDelivery → ReadAnchor → Hash → Bool
 sameDelivery held a p = both (sameAnchor (held .anchor) a) (sameHash (held .«parent_hash») p)
 
-unfoldable pub redelivery : HeadDelivery → ReadAnchor → Hash → Redelivery
-redelivery held a p = if (sameDelivery held a p) (Redelivery.Of (held .seq)) Redelivery.New
+unfoldable pub repeatOf : HeadDelivery → ReadAnchor → Hash → Repeat
+repeatOf held a p = if (sameDelivery held a p) (Repeat.Of (held .seq)) Repeat.New
 
 -- a delivery of the same anchor and parent hash as current has the old seq, any other is new
-unfoldable pub repeats : DeliverySlot → ReadAnchor → Hash → Redelivery
-repeats DeliverySlot.Nothing a p = Redelivery.New
-repeats (DeliverySlot.Held held) a p = redelivery held a p
+unfoldable pub repeats : DeliverySlot → ReadAnchor → Hash → Repeat
+repeats DeliverySlot.Nothing a p = Repeat.New
+repeats (DeliverySlot.Held held) a p = repeatOf held a p

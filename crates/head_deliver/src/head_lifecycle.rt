@@ -1,9 +1,8 @@
 // From head_lifecycle.rs: `BalHeadDriver::deliver` and `HeadLifecycle::deliver`.
 ghost use mathlib.Core.Path.{_≡_};
 ghost use Rattle.head_current.specs.Heads.{delivery};
-ghost use Rattle.head_deliver.specs.Deliver.{deliver};
+ghost use Rattle.head_deliver.specs.Deliver.{deliver, deliverAs};
 ghost use Rattle.head_deliver.specs.Delivered.{countDelivery, countReplaced, delivered, newHead, replaced, unsettled};
-ghost use Rattle.head_deliver.specs.Parts.{deliverAs};
 ghost use Rattle.head_deliver.specs.Repeats.{repeats, sameDelivery};
 ghost use Rattle.head_driver.specs.Answers.{Replies};
 ghost use Rattle.head_driver.specs.Parts.{replyOf, withLife};
@@ -35,7 +34,7 @@ use head_driver::head_lifecycle::ending;
 use head_life::HeadLifecycle;
 
 // Whether a delivery repeats the current head's, and then under which number.
-pub enum Redelivery {
+pub enum Repeat {
     New,
     Of(Seq),
 }
@@ -49,21 +48,21 @@ pub(crate) fn same_delivery(held: HeadDelivery, anchor: ReadAnchor, parent_hash:
     )
 }
 
-pub(crate) fn repeats(slot: DeliverySlot, anchor: ReadAnchor, parent_hash: Hash) -> Redelivery
+pub(crate) fn repeats(slot: DeliverySlot, anchor: ReadAnchor, parent_hash: Hash) -> Repeat
     ensures { λ r. ⌜ r ≡ repeats slot anchor «parent_hash» ⌝ }
 {
     let DeliverySlot::Held(held) = slot else {
-        return Redelivery::New;
+        return Repeat::New;
     };
     if same_delivery(held, anchor, parent_hash) {
         let seq = held.seq;
-        return Redelivery::Of(seq);
+        return Repeat::Of(seq);
     }
-    Redelivery::New
+    Repeat::New
 }
 
 // Whether a delivery repeats the current head's.
-pub(crate) fn repeated_by(life: HeadLifecycle, anchor: ReadAnchor, parent_hash: Hash) -> Redelivery
+pub(crate) fn repeated_by(life: HeadLifecycle, anchor: ReadAnchor, parent_hash: Hash) -> Repeat
     ensures { λ r. ⌜ r ≡ repeats (delivery (life .current)) anchor «parent_hash» ⌝ }
 {
     let current = life.current;
@@ -177,7 +176,7 @@ pub(crate) fn repeated(mut d: Driver, seq: Seq) -> Reply
 }
 
 pub(crate) fn deliver_new(mut d: Driver, anchor: ReadAnchor, parent_hash: Hash, cold: u64) -> Reply
-    ensures { λ r. ⌜ r ≡ deliverAs d anchor «parent_hash» cold Redelivery.New ⌝ }
+    ensures { λ r. ⌜ r ≡ deliverAs d anchor «parent_hash» cold Repeat.New ⌝ }
 {
     let seq = d.life.seq.next();
     let next = delivered(d.life, anchor, parent_hash, cold);
@@ -189,7 +188,7 @@ pub fn deliver(d: Driver, anchor: ReadAnchor, parent_hash: Hash, cold: u64) -> R
     ensures { λ r. ⌜ Replies r (deliver d anchor «parent_hash» cold) ⌝ }
 {
     match repeated_by(d.life, anchor, parent_hash) {
-        Redelivery::New => return deliver_new(d, anchor, parent_hash, cold),
-        Redelivery::Of(seq) => return repeated(d, seq),
+        Repeat::New => return deliver_new(d, anchor, parent_hash, cold),
+        Repeat::Of(seq) => return repeated(d, seq),
     }
 }

@@ -1,4 +1,4 @@
-// Plays document 01's edges E1 to E10 and E12 on typed calls and prints each answer as document 01 writes it.
+// Plays document 01's edges E1 to E10 and E12 on typed calls and prints each answer as document 01 writes it. Knows nothing of call lines.
 ghost use mathlib.Core.Path.{_≡_};
 ghost use Rattle.head_driver.specs.Answers.{said};
 ghost use Rattle.head_edges.specs.Shown.{lengthOf};

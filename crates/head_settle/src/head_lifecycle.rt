@@ -35,7 +35,7 @@ pub(crate) fn abandoned(u: UnsettledHead) -> bool
     }
 }
 
-pub(crate) fn unsettled_epoch(u: UnsettledHead, epoch: Epoch) -> Epoch
+pub(crate) fn unclaimed_epoch(u: UnsettledHead, epoch: Epoch) -> Epoch
     ensures { λ r. ⌜ r ≡ settlingEpoch (CurrentHead.Unclaimed u) epoch ⌝ }
 {
     if abandoned(u) {
@@ -69,7 +69,7 @@ pub(crate) fn settle_open(
     settle_with(delivery, report, attempt.publish(HeadCompletion::Settled))
 }
 
-pub(crate) fn settle_unsettled(u: UnsettledHead, epoch: Epoch, report: LastReport) -> CurrentHead
+pub(crate) fn settle_unclaimed(u: UnsettledHead, epoch: Epoch, report: LastReport) -> CurrentHead
     ensures { λ r. ⌜ r ≡ settledHead (CurrentHead.Unclaimed u) epoch report ⌝ }
 {
     if abandoned(u) {
@@ -84,7 +84,7 @@ pub(crate) fn settling_epoch(current: CurrentHead, epoch: Epoch) -> Epoch
 {
     match current {
         CurrentHead::Absent => return epoch,
-        CurrentHead::Unclaimed(u) => return unsettled_epoch(u, epoch),
+        CurrentHead::Unclaimed(u) => return unclaimed_epoch(u, epoch),
         CurrentHead::Preparing(_) => return epoch,
         CurrentHead::Settled(_) => return epoch,
     }
@@ -96,7 +96,7 @@ pub(crate) fn settled_head(current: CurrentHead, epoch: Epoch, report: LastRepor
 {
     match current {
         CurrentHead::Absent => return current,
-        CurrentHead::Unclaimed(u) => return settle_unsettled(u, epoch, report),
+        CurrentHead::Unclaimed(u) => return settle_unclaimed(u, epoch, report),
         CurrentHead::Preparing(u) => return settle_open(u.delivery, report, u.attempt),
         CurrentHead::Settled(s) => return settle_open(s.delivery, report, s.attempt),
     }

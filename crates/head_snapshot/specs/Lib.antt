@@ -1,4 +1,3 @@
--- Document 01, "Lifecycle": `snapshot`. Views and Snapshot are the paper's; Parts are what the calls that answer a view share.
+-- Document 01, "Lifecycle": `snapshot`.
 pub mod Views
-pub mod Parts
 pub mod Snapshot

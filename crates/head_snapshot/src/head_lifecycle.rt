@@ -1,8 +1,7 @@
 // From head_lifecycle.rs: `HeadLifecycle::lookup`, with the installed generation that `BalHeadDriver::snapshot` asks the cache for first; and `snapshot`.
 ghost use mathlib.Core.Path.{_≡_};
 ghost use Rattle.head_driver.specs.Answers.{Replies};
-ghost use Rattle.head_snapshot.specs.Parts.{viewed};
-ghost use Rattle.head_snapshot.specs.Snapshot.{snapshot};
+ghost use Rattle.head_snapshot.specs.Snapshot.{snapshot, viewed};
 ghost use Rattle.head_snapshot.specs.Views.{currentView, generationView, provisionalView, spareReason, spareView, view};
 use head_anchor::AnchorSlot;
 use head_anchor::ReadAnchor;

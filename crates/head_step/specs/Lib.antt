@@ -1,3 +1,3 @@
--- Document 01: which calls are turned away by the input, and every call. Inputs and Steps are the paper's; Dispatch is what they are made of.
+-- Document 01: every call. Steps is the paper's; Dispatch is what it is made of.
 pub mod Dispatch
 pub mod Steps

@@ -1,4 +1,4 @@
--- A reader of a line: the word that stands next, and the reader once that word's bytes are taken.
+-- Document 01, "Lines": a reader record borrowing the line and counting bytes taken. The word that stands next, and the reader once that word's bytes are taken.
 use Prim.Native.Nat.{ℕ, _+_}
 use mathlib.Core.List.{List}
 use lib.ListN.{length, drop}

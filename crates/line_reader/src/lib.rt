@@ -1,5 +1,6 @@
 // A reader that borrows a line and counts the bytes taken. Its functions are thin: each takes it apart and leaves the work to a
 // function over the line and a place. Whoever has no reader calls `word_from`, whose parameters are plain.
+// Knows nothing of keywords, numbers or calls.
 ghost use mathlib.Core.Path.{_≡_};
 ghost use lib.ListN.{drop};
 ghost use Rattle.line_reader.specs.Taken.{wordNext, tookWord};

@@ -4,11 +4,9 @@ use mathlib.Core.Path.{_≡_, refl, ap, _∙_}
 use Rattle.alike.proofs.Tests.{anchor-same}
 use Rattle.head_current.specs.Heads.{delivery}
 use Rattle.head_deliver.specs.Repeats.{repeats}
-use Rattle.head_deliver.specs.Deliver.{deliver}
-use Rattle.head_snapshot.specs.Snapshot.{snapshot}
-use Rattle.head_snapshot.specs.Parts.{viewed}
+use Rattle.head_deliver.specs.Deliver.{deliver, deliverAs}
+use Rattle.head_snapshot.specs.Snapshot.{snapshot, viewed}
 use Rattle.head_driver.specs.Parts.{withLife}
-use Rattle.head_deliver.specs.Parts.{deliverAs}
 use Rattle.head_deliver.specs.Delivered.{delivered}
 use Rattle.head_life.specs.State.{counted}
 use Rattle.head_step.specs.Dispatch.{dispatch}
@@ -17,7 +15,7 @@ use Rattle.head_step.specs.Steps.{step}
 use Rattle.head_snapshot.specs.Views.{generationView, view, viewOf}
 use Rattle.hash.specs.declared.Hash.{Hash}
 use Rattle.head_anchor.specs.declared.ReadAnchor.{ReadAnchor}
-use Rattle.head_deliver.specs.declared.head_lifecycle.Redelivery.{Redelivery}
+use Rattle.head_deliver.specs.declared.head_lifecycle.Repeat.{Repeat}
 use Rattle.head_driver.specs.declared.Answer.{Answer}
 use Rattle.head_driver.specs.declared.Driver.{Driver}
 use Rattle.head_ready.specs.declared.Generation.{Generation}
@@ -28,10 +26,10 @@ use Rattle.head_ready.specs.declared.Source.{Source}
 use Rattle.redelivered.specs.Statements.{ShownAsSettled}
 
 -- whether the delivery repeats the current head or is new, what is installed stays
-installed-kept : (d : Driver) (a : ReadAnchor) (p : Hash) (cold : ℕ) (r : Redelivery) → deliverAs d a p cold r .driver .life .installed ≡ d .life .installed
+installed-kept : (d : Driver) (a : ReadAnchor) (p : Hash) (cold : ℕ) (r : Repeat) → deliverAs d a p cold r .driver .life .installed ≡ d .life .installed
 unfolding deliverAs withLife counted delivered
-installed-kept d a p cold Redelivery.New = refl
-installed-kept d a p cold (Redelivery.Of n) = refl
+installed-kept d a p cold Repeat.New = refl
+installed-kept d a p cold (Repeat.Of n) = refl
 
 -- the first that fits is the installed generation
 installed-read : (l : HeadLifecycle) (g : Generation) (spare : ℕ) → l .installed ≡ GenerationSlot.Held g → view l (g .anchor) spare ≡ viewOf Source.Installed (g .handle) (g .readiness)

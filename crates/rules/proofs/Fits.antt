@@ -13,16 +13,12 @@ use Rattle.head_apply.specs.Apply.{apply, applyAs, settleAs}
 use Rattle.head_count.specs.Counters.{nextEpoch, nextSeq}
 use Rattle.head_current.specs.Heads.{anchorOf, delivery, ticketOf}
 use Rattle.head_reads.specs.Reports.{lastReport}
-use Rattle.head_waits.specs.Parts.{preparingAt, abandonedView, join, resumeAs, unowned, unownedReadiness, unownedReason, viewedBy, waitAs, waiterAt}
-use Rattle.head_deliver.specs.Repeats.{redelivery, repeats, sameDelivery}
+use Rattle.head_deliver.specs.Repeats.{repeatOf, repeats, sameDelivery}
 use Rattle.head_release.specs.Owners.{ownedBy}
-use Rattle.head_claim.specs.Claim.{claim}
-use Rattle.head_deliver.specs.Deliver.{deliver}
+use Rattle.head_claim.specs.Claim.{claim, claimAs}
+use Rattle.head_deliver.specs.Deliver.{deliver, deliverAs}
 use Rattle.head_release.specs.Release.{release}
-use Rattle.head_snapshot.specs.Snapshot.{snapshot}
-use Rattle.head_snapshot.specs.Parts.{viewed}
-use Rattle.head_claim.specs.Parts.{claimAs}
-use Rattle.head_deliver.specs.Parts.{deliverAs}
+use Rattle.head_snapshot.specs.Snapshot.{snapshot, viewed}
 use Rattle.head_plan.specs.Plans.{planApply, planAt, planHeld}
 use Rattle.head_claim.specs.Starts.{claimGate, claimStartAt, claimStart}
 use Rattle.head_ready.specs.Generations.{isReady, slotAnchor}
@@ -33,7 +29,7 @@ use Rattle.head_step.proofs.Asked.{asked}
 use Rattle.head_step.specs.Dispatch.{dispatch}
 use Rattle.head_step.specs.Steps.{step}
 use Rattle.head_snapshot.specs.Views.{currentView, generationView, provisionalView, spareReason, spareView, view}
-use Rattle.head_waits.specs.Calls.{resume, wait}
+use Rattle.head_waits.specs.Calls.{abandonedView, join, preparingAt, resume, resumeAs, unowned, unownedReadiness, unownedReason, viewedBy, wait, waitAs, waiterAt}
 use Rattle.head_ready.specs.Ranges.{ColdFits, GenerationSlotFits, ReadinessFits}
 use Rattle.hash.specs.Ranges.{Fits}
 use Rattle.head_anchor.specs.Ranges.{AnchorFits, OutcomeFits, SkipFits, SlotFits}
@@ -101,7 +97,7 @@ unfolding nextSeq
 seq-fits d f = up-fits (d .life .seq .0) (f .life .seq)
 
 delivered-fits : (d : Driver) (s : DeliverySlot) (a : ReadAnchor) (p : Hash) (cold : ℕ) → A.DriverFits d → HeldFits s → Replied (deliverAs d a p cold (repeats s a p))
-unfolding deliverAs repeats redelivery
+unfolding deliverAs repeats repeatOf
 delivered-fits d DeliverySlot.Nothing a p cold f g = seq-fits d f
 delivered-fits d (DeliverySlot.Held held) a p cold f g = by-if (λ r. Replied (deliverAs d a p cold r)) (sameDelivery held a p) _ _ (λ e. g .seq) (λ e. seq-fits d f)
 

@@ -19,7 +19,7 @@ use Rattle.script_sheet.specs.Sheets.{sheetText}
 use Rattle.text.specs.Ascii.{ascii}
 use Rattle.head_driver.specs.declared.Driver.{Driver}
 use Rattle.script_call.specs.declared.LineCall.{LineCall}
-use Rattle.rules.specs.Inputs.{EndsInFeed, InputsRule, alone, empty, ended, lastSheet, leftBy}
+use Rattle.rules.specs.Inputs.{EndsInFeed, InputsRule, alone, empty, ended, lastSheet, driverLeftBy}
 use Rattle.rules.specs.Runs.{after}
 use Rattle.rules.specs.Statements.{CountersBelow, TellingBelow}
 use Rattle.rules.proofs.Lines.{lines-keep}
@@ -62,18 +62,18 @@ prints-sheet : (d : Driver) → answered d (ascii "(sheet)" ∷ []) ≡ sheetTex
 unfolding answered prints
 prints-sheet d = rw (sheet-is, append-nil)
 
-pub last-sheet : (input : List ℕ) → EndsInFeed input → lastSheet input ≡ sheetText (leftBy input)
+pub last-sheet : (input : List ℕ) → EndsInFeed input → lastSheet input ≡ sheetText (driverLeftBy input)
 unfolding script
 last-sheet input e =
-    let whole : answered new (lines (input ++ ascii "(sheet)\n")) ≡ answered new (lines input) ++ sheetText (leftBy input)
+    let whole : answered new (lines (input ++ ascii "(sheet)\n")) ≡ answered new (lines input) ++ sheetText (driverLeftBy input)
     = (ap (answered new) (lines-append input (ascii "(sheet)\n") e ∙ ap (λ (r : List (List ℕ)). lines input ++ r) sheet-line)
     ∙ answered-append new (lines input) (ascii "(sheet)" ∷ [])
-    ∙ ap (λ (r : List ℕ). answered new (lines input) ++ r) (prints-sheet (leftBy input))) in
-    ap (drop (length (answered new (lines input)))) whole ∙ drop-append-seam (answered new (lines input)) (sheetText (leftBy input))
+    ∙ ap (λ (r : List ℕ). answered new (lines input) ++ r) (prints-sheet (driverLeftBy input))) in
+    ap (drop (length (answered new (lines input)))) whole ∙ drop-append-seam (answered new (lines input)) (sheetText (driverLeftBy input))
 
 -- ---- the rule
 
-brought : (input : List ℕ) → Invariant (leftBy input)
+brought : (input : List ℕ) → Invariant (driverLeftBy input)
 brought input = lines-keep new (map alone (lines input)) holds-of-new
 
 telling : {d : Driver} → CountersBelow d → TellingBelow d
@@ -81,6 +81,6 @@ telling b = record { delivered-below = b .delivered; epoch-below = b .epoch }
 
 pub inputs-rule : InputsRule
 inputs-rule first second e₁ e₂ b₁ b₂ = (
-  λ s. kept-sheets-tell-answers (leftBy first) (leftBy second) (brought first) (brought second) (sym (last-sheet first e₁) ∙ s ∙ last-sheet second e₂),
-  λ a. last-sheet first e₁ ∙ kept-answers-tell-sheets (leftBy first) (leftBy second) (brought first) (brought second) (telling b₁) (telling b₂) a ∙ sym (last-sheet second e₂),
+  λ s. kept-sheets-tell-answers (driverLeftBy first) (driverLeftBy second) (brought first) (brought second) (sym (last-sheet first e₁) ∙ s ∙ last-sheet second e₂),
+  λ a. last-sheet first e₁ ∙ kept-answers-tell-sheets (driverLeftBy first) (driverLeftBy second) (brought first) (brought second) (telling b₁) (telling b₂) a ∙ sym (last-sheet second e₂),
 )

@@ -11,17 +11,13 @@ use Rattle.head_anchor.specs.Lists.{asPrepared}
 use Rattle.head_apply.specs.Apply.{apply, applyAs, settleAs}
 use Rattle.head_count.specs.Counters.{raise}
 use Rattle.head_current.specs.Heads.{delivery, ticketOf}
-use Rattle.head_waits.specs.Parts.{preparingAt, join, resumeAs, viewedBy, waitAs, waiterAt}
 use Rattle.head_deliver.specs.Repeats.{repeats}
 use Rattle.head_release.specs.Owners.{ownedBy}
-use Rattle.head_claim.specs.Claim.{claim}
-use Rattle.head_deliver.specs.Deliver.{deliver}
+use Rattle.head_claim.specs.Claim.{claim, claimAs}
+use Rattle.head_deliver.specs.Deliver.{deliver, deliverAs}
 use Rattle.head_release.specs.Release.{release}
-use Rattle.head_snapshot.specs.Snapshot.{snapshot}
-use Rattle.head_snapshot.specs.Parts.{viewed}
+use Rattle.head_snapshot.specs.Snapshot.{snapshot, viewed}
 use Rattle.head_driver.specs.Parts.{withLife}
-use Rattle.head_claim.specs.Parts.{claimAs}
-use Rattle.head_deliver.specs.Parts.{deliverAs}
 use Rattle.head_plan.specs.Plans.{planApply, planAt, planHeld}
 use Rattle.head_claim.specs.Starts.{claimGate, claimStartAt, claimStart}
 use Rattle.head_ready.specs.Generations.{slotAnchor}
@@ -32,7 +28,7 @@ use Rattle.head_link.specs.Link.{link}
 use Rattle.head_step.proofs.Asked.{asked}
 use Rattle.head_step.specs.Dispatch.{dispatch}
 use Rattle.head_step.specs.Steps.{step}
-use Rattle.head_waits.specs.Calls.{resume, wait}
+use Rattle.head_waits.specs.Calls.{join, preparingAt, resume, resumeAs, viewedBy, wait, waitAs, waiterAt}
 use Rattle.hash.specs.declared.Hash.{Hash}
 use Rattle.head_anchor.specs.declared.PreparedBal.{PreparedBal}
 use Rattle.head_anchor.specs.declared.ReadAnchor.{ReadAnchor}
@@ -42,7 +38,7 @@ use Rattle.head_current.specs.declared.CurrentHead.{CurrentHead}
 use Rattle.head_current.specs.declared.DeliverySlot.{DeliverySlot}
 use Rattle.head_current.specs.declared.HeadDelivery.{HeadDelivery}
 use Rattle.head_current.specs.declared.HeadTicket.{HeadTicket}
-use Rattle.head_deliver.specs.declared.head_lifecycle.Redelivery.{Redelivery}
+use Rattle.head_deliver.specs.declared.head_lifecycle.Repeat.{Repeat}
 use Rattle.head_driver.specs.declared.Driver.{Driver}
 use Rattle.head_driver.specs.declared.Reply.{Reply}
 use Rattle.head_ready.specs.declared.GenerationSlot.{GenerationSlot}
@@ -50,14 +46,14 @@ use Rattle.head_plan.specs.declared.head_lifecycle.ApplyPlan.{ApplyPlan}
 use Rattle.head_claim.specs.declared.head_lifecycle.ClaimStart.{ClaimStart}
 use Rattle.head_call.specs.declared.Call.{Call}
 use Rattle.script_call.specs.declared.LineCall.{LineCall}
-use Rattle.rules.specs.Refusals.{FirstThatApplies, HeadInstalled, Refusal, Test, alreadyInstalled, alreadySettled, callTests, foreign, free, inFlight, leftBy, notFree, superseded, test}
+use Rattle.rules.specs.Refusals.{FirstThatApplies, HeadInstalled, Refusal, Test, alreadyInstalled, alreadySettled, callTests, foreign, free, inFlight, afterRefusal, notFree, superseded, test}
 use Rattle.rules.specs.Said.{answerRefusal}
 use Rattle.rules.proofs.Conditions.{anchor-is-not, installed-is, installed-is-not, list-agrees, list-at-odds, number-high, number-low, ticket-is, ticket-is-not}
 
 -- the driver that a refusal leaves
 abbrev pub Leaves : Driver → Call → Refusal → Driver → Type 0
 Leaves d c Refusal.accepted e = Unit {0}
-Leaves d c (Refusal.refused n names) e = e ≡ leftBy d (LineCall.Make c) n
+Leaves d c (Refusal.refused n names) e = e ≡ afterRefusal d (LineCall.Make c) n
 
 -- a reply is what the first condition that applies says, and leaves the driver so
 pub record Met (d : Driver) (c : Call) (ts : List Test) (r : Reply) : Type 0 where
@@ -154,10 +150,10 @@ resume-met d (Waiter.Ended a) n spare = past ended-taken (join-met d (Call.Resum
 
 -- ---- every call
 
-deliver-met : (d : Driver) (a : ReadAnchor) (p : Hash) (cold : ℕ) (r : Redelivery) → Met d (Call.Deliver a p cold) [] (deliverAs d a p cold r)
+deliver-met : (d : Driver) (a : ReadAnchor) (p : Hash) (cold : ℕ) (r : Repeat) → Met d (Call.Deliver a p cold) [] (deliverAs d a p cold r)
 unfolding deliverAs
-deliver-met d a p cold Redelivery.New = record { first = refl; leaves = tt }
-deliver-met d a p cold (Redelivery.Of n) = record { first = refl; leaves = tt }
+deliver-met d a p cold Repeat.New = record { first = refl; leaves = tt }
+deliver-met d a p cold (Repeat.Of n) = record { first = refl; leaves = tt }
 
 dispatch-met : (d : Driver) (c : Call) → Met d c (callTests d c) (dispatch d c)
 unfolding dispatch deliver claim claimStart release apply planApply snapshot viewed wait resume completion link report stats heads

@@ -25,11 +25,11 @@ abbrev pub alone : List ℕ → Entry
 alone line = record { line = line; buffer = [] }
 
 -- the driver that an input leaves
-abbrev pub leftBy : List ℕ → Driver
-leftBy input = after new (map alone (lines input))
+abbrev pub driverLeftBy : List ℕ → Driver
+driverLeftBy input = after new (map alone (lines input))
 
 -- Two inputs print the same for a last `(sheet)` exactly when every list of further lines gets the same answers after both.
 abbrev pub InputsRule : Type 0
 InputsRule = (first second : List ℕ) → EndsInFeed first → EndsInFeed second
-    → CountersBelow (leftBy first) → CountersBelow (leftBy second)
-    → (lastSheet first ≡ lastSheet second) ↔ SameAnswers (leftBy first) (leftBy second)
+    → CountersBelow (driverLeftBy first) → CountersBelow (driverLeftBy second)
+    → (lastSheet first ≡ lastSheet second) ↔ SameAnswers (driverLeftBy first) (driverLeftBy second)

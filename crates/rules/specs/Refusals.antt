@@ -10,7 +10,7 @@ use Rattle.hash.specs.Logic.{if}
 use Rattle.head_count.specs.Counters.{statsOf, up}
 use Rattle.head_current.specs.Heads.{delivery}
 use Rattle.head_life.specs.State.{withStats}
-use Rattle.head_waits.specs.Parts.{waiterAt}
+use Rattle.head_waits.specs.Calls.{waiterAt}
 use Rattle.script_call.specs.Calls.{call}
 use Rattle.head_call.specs.Ranges.{Writable}
 use Rattle.script_call.specs.Texts.{callText}
@@ -167,5 +167,5 @@ countedBy (LineCall.Make Call.Stats) n = false
 countedBy (LineCall.Make Call.Heads) n = false
 
 -- apply's 11 and 12 add 1 to discarded; nothing else changes in any refusal
-abbrev pub leftBy : Driver → LineCall → ℕ → Driver
-leftBy d q n = if (countedBy q n) (record { life = withStats (d .life) (oneMoreDiscarded (d .life .stats)); waiters = d .waiters }) d
+abbrev pub afterRefusal : Driver → LineCall → ℕ → Driver
+afterRefusal d q n = if (countedBy q n) (record { life = withStats (d .life) (oneMoreDiscarded (d .life .stats)); waiters = d .waiters }) d

@@ -1,4 +1,4 @@
--- Lists of lines: each line gets the state that the one before it left, and nothing else writes that state.
+-- Document 01, "What contracts say, what cases show": lists of lines, where each line gets the state that the one before it left, and nothing else writes that state.
 use Prim.Native.Nat.{ℕ, _<_}
 use mathlib.Core.List.{List, [], _∷_}
 use mathlib.Core.Path.{_≡_}

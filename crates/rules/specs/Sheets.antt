@@ -1,4 +1,4 @@
--- A sheet is what `(sheet)` writes into 4,096 bytes or more, up to its last line feed.
+-- Document 01, "What contracts say, what cases show": a sheet is what `(sheet)` writes into 4,096 bytes or more, up to its last line feed.
 use Prim.Native.Nat.{ℕ}
 use mathlib.Core.List.{List, [], _∷_}
 use lib.Dec.{eqb}

@@ -11,13 +11,13 @@ use Rattle.script_call.specs.Calls.{call}
 use Rattle.driver.specs.declared.Turn.{Turn}
 use Rattle.head_driver.specs.declared.Driver.{Driver}
 use Rattle.script_call.specs.declared.LineCall.{LineCall}
-use Rattle.rules.specs.Refusals.{FirstThatApplies, HeadInstalled, IsSettled, Refusal, leftBy, tests}
+use Rattle.rules.specs.Refusals.{FirstThatApplies, HeadInstalled, IsSettled, Refusal, afterRefusal, tests}
 use Rattle.rules.specs.Said.{Says, lineRefusal}
 
 -- after a refusal the driver is as it was but for discarded, and the sheet buffer keeps every byte
 abbrev pub Unchanged : Driver → LineCall → List ℕ → Refusal → Driver → List ℕ → Type 0
 Unchanged d q buffer Refusal.accepted d′ buffer′ = Unit {0}
-Unchanged d q buffer (Refusal.refused n names) d′ buffer′ = (d′ ≡ leftBy d q n) × (buffer′ ≡ buffer)
+Unchanged d q buffer (Refusal.refused n names) d′ buffer′ = (d′ ≡ afterRefusal d q n) × (buffer′ ≡ buffer)
 
 -- what a line gets, and the buffer after it
 pub record TurnedAs (d : Driver) (line buffer : List ℕ) (got : Turn) (after : List ℕ) : Type 0 where

@@ -7,7 +7,7 @@ use lib.ListN.{length, length-append}
 use Rattle.alike.specs.Canon.{shownLife}
 use Rattle.script_sheet.proofs.Shown.{sheet-shown}
 use Rattle.script_sheet.specs.Sheets.{lifeLines}
-use Rattle.sheet_lines.specs.Lines.{countLine, currentLine, deliveryText, generationText, installedLine, poseText, previousLine, supersededLine, unsettledText, waiterLine, waiterLines}
+use Rattle.sheet_lines.specs.Lines.{countLine, currentLine, deliveryText, generationText, installedLine, unclaimedEndText, previousLine, supersededLine, unsettledText, waiterLine, waiterLines}
 use Rattle.text.specs.Decimals.{decimal, decimalOn}
 use Rattle.head_count.specs.declared.Epoch.{Epoch}
 use Rattle.head_attempt.specs.declared.HeadCompletion.{HeadCompletion}
@@ -27,12 +27,12 @@ count-most : (s : HeadStats) (e : Epoch) → length (countLine s e) ≤ 197
 unfolding countLine
 count-most s e = simp length-append (omega (arith, stats-most s, spaced-most (e .0)))
 
-pose-most : (e : HeadCompletion) → length (poseText e) ≤ 9
-unfolding poseText
-pose-most HeadCompletion.Open = omega arith
-pose-most HeadCompletion.Settled = omega arith
-pose-most HeadCompletion.Superseded = omega arith
-pose-most HeadCompletion.Abandoned = omega arith
+unclaimed-end-most : (e : HeadCompletion) → length (unclaimedEndText e) ≤ 9
+unfolding unclaimedEndText
+unclaimed-end-most HeadCompletion.Open = omega arith
+unclaimed-end-most HeadCompletion.Settled = omega arith
+unclaimed-end-most HeadCompletion.Superseded = omega arith
+unclaimed-end-most HeadCompletion.Abandoned = omega arith
 
 delivery-most : (held : HeadDelivery) → length (deliveryText held) ≤ 152
 unfolding deliveryText
@@ -45,7 +45,7 @@ unsettled-most u = simp length-append (omega (arith, delivery-most (u .delivery)
 current-most : (c : CurrentHead) → length (currentLine c) ≤ 247
 unfolding currentLine
 current-most CurrentHead.Absent = omega arith
-current-most (CurrentHead.Unclaimed u) = simp length-append (omega (arith, unsettled-most u, pose-most (u .attempt .end)))
+current-most (CurrentHead.Unclaimed u) = simp length-append (omega (arith, unsettled-most u, unclaimed-end-most (u .attempt .end)))
 current-most (CurrentHead.Preparing u) = simp length-append (omega (arith, unsettled-most u))
 current-most (CurrentHead.Settled s) = simp length-append (omega (arith, delivery-most (s .delivery), report-most (s .report)))
 

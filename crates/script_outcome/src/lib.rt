@@ -1,5 +1,6 @@
 // Outcomes as text, into a lent buffer, for lines and sheets alike: one writer for each value.
-// No hash stands in an outcome, so its text is the same on a line and on a sheet. Knows nothing of what holds an outcome.
+// No hash stands in an outcome, so its text is the same on a line and on a sheet. Its code knows nothing of what
+// holds an outcome; its definitions have the texts of reports, readiness, sources and ends too.
 ghost use Prim.Native.Nat.{_+_, _≤_};
 ghost use mathlib.Core.List.{_++_};
 ghost use lib.ListN.{length};

@@ -20,7 +20,7 @@ use Rattle.script_outcome.specs.Texts.{readinessText, reportText}
 use Rattle.script_value.specs.Texts.{spacedText, statsText}
 use Rattle.value_text.specs.Texts.{anchorText}
 use Rattle.value_text.specs.Words.{wordText}
-use Rattle.sheet_lines.specs.Lines.{countLine, currentLine, deliveryText, generationText, installedLine, poseText, previousLine, supersededLine, unsettledText}
+use Rattle.sheet_lines.specs.Lines.{countLine, currentLine, deliveryText, generationText, installedLine, unclaimedEndText, previousLine, supersededLine, unsettledText}
 use Rattle.text.proofs.Back.{past-back, word-back}
 use Rattle.text.specs.Ascii.{ascii}
 use Rattle.text.specs.Rests.{after, at, step}
@@ -37,7 +37,7 @@ use Rattle.head_current.specs.declared.UnsettledHead.{UnsettledHead}
 use Rattle.head_ready.specs.declared.Generation.{Generation}
 use Rattle.head_ready.specs.declared.GenerationSlot.{GenerationSlot}
 use Rattle.value_text.specs.declared.page.Page.{Page}
-use Rattle.sheet_back.specs.Heads.{headNamed, readCount, readCurrent, readDelivery, readGeneration, readHeld, readInstalled, readPose, readPreparing, readPrevious, readSettled, readSuperseded, readUnclaimed}
+use Rattle.sheet_back.specs.Heads.{headNamed, readCount, readCurrent, readDelivery, readGeneration, readHeld, readInstalled, readUnclaimedEnd, readPreparing, readPrevious, readSettled, readSuperseded, readUnclaimed}
 
 -- ---- count
 
@@ -58,12 +58,12 @@ delivery-back n held t f z =
     let fh = f .parent-hash in
     simp (append-assoc, anchor-back, hash-on-back)
 
-pose-back : (end : HeadCompletion) (t : List ℕ) → OpenOrAbandoned end → run t ≡ 0 → readPose (at (poseText end ++ t)) ≡ got end (at t)
-unfolding readPose poseText sameText run inWord
-pose-back HeadCompletion.Open t f z = word-hit _ _ t z (ascii "open") refl
-pose-back HeadCompletion.Settled t f z = absurd f
-pose-back HeadCompletion.Superseded t f z = absurd f
-pose-back HeadCompletion.Abandoned t f z = word-miss _ _ t z (ascii "open") (ascii "abandoned") refl refl ∙ word-hit _ _ t z (ascii "abandoned") refl
+unclaimed-end-back : (end : HeadCompletion) (t : List ℕ) → OpenOrAbandoned end → run t ≡ 0 → readUnclaimedEnd (at (unclaimedEndText end ++ t)) ≡ got end (at t)
+unfolding readUnclaimedEnd unclaimedEndText sameText run inWord
+unclaimed-end-back HeadCompletion.Open t f z = word-hit _ _ t z (ascii "open") refl
+unclaimed-end-back HeadCompletion.Settled t f z = absurd f
+unclaimed-end-back HeadCompletion.Superseded t f z = absurd f
+unclaimed-end-back HeadCompletion.Abandoned t f z = word-miss _ _ t z (ascii "open") (ascii "abandoned") refl refl ∙ word-hit _ _ t z (ascii "abandoned") refl
 
 module _ (n : ℕ) (e : Epoch) where
   named : (w t : List ℕ) → run w ≡ length w → run t ≡ 0 → readCurrent n e (at (ascii "(current " ++ (w ++ t))) ≡ then (ascii ")\n") (headNamed n e w (at t))
@@ -75,17 +75,17 @@ module _ (n : ℕ) (e : Epoch) where
   Line w s c t = readCurrent n e (at (ascii "(current " ++ (w ++ s))) ≡ got c (at t)
 
   module _ (u : UnsettledHead) (t : List ℕ) (f : UnsettledFits u) where
-    unclaimed-form : currentLine (CurrentHead.Unclaimed u) ++ t ≡ ascii "(current " ++ (ascii "unclaimed" ++ (ascii " " ++ (deliveryText (u .delivery) ++ (spacedText (u .provisional) ++ (ascii " " ++ (poseText (u .attempt .end) ++ (ascii ")\n" ++ t)))))))
+    unclaimed-form : currentLine (CurrentHead.Unclaimed u) ++ t ≡ ascii "(current " ++ (ascii "unclaimed" ++ (ascii " " ++ (deliveryText (u .delivery) ++ (spacedText (u .provisional) ++ (ascii " " ++ (unclaimedEndText (u .attempt .end) ++ (ascii ")\n" ++ t)))))))
     unfolding currentLine unsettledText
     unclaimed-form = simp append-assoc
 
     unclaimed-named : OpenOrAbandoned (u .attempt .end)
-        → then (ascii ")\n") (headNamed n e (ascii "unclaimed") (at (ascii " " ++ (deliveryText (u .delivery) ++ (spacedText (u .provisional) ++ (ascii " " ++ (poseText (u .attempt .end) ++ (ascii ")\n" ++ t)))))))) ≡ got (shownHead n e (CurrentHead.Unclaimed u)) (at t)
+        → then (ascii ")\n") (headNamed n e (ascii "unclaimed") (at (ascii " " ++ (deliveryText (u .delivery) ++ (spacedText (u .provisional) ++ (ascii " " ++ (unclaimedEndText (u .attempt .end) ++ (ascii ")\n" ++ t)))))))) ≡ got (shownHead n e (CurrentHead.Unclaimed u)) (at t)
     unfolding headNamed readUnclaimed shownHead sameText then after step run inWord
     unclaimed-named h =
         let fd = f .delivery in
         let fp = f .provisional in
-        simp (delivery-back, spaced-run, spaced-back, pose-back)
+        simp (delivery-back, spaced-run, spaced-back, unclaimed-end-back)
 
     unclaimed-back : OpenOrAbandoned (u .attempt .end) → readCurrent n e (at (currentLine (CurrentHead.Unclaimed u) ++ t)) ≡ got (shownHead n e (CurrentHead.Unclaimed u)) (at t)
     unfolding run inWord

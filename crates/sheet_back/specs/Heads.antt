@@ -42,15 +42,15 @@ readDelivery delivered r =
     let parent = readHashOn Page.Sheet (after (ascii " ") (anchor .next)) in
     got (deliveryOf (anchor .value) (parent .value) (seqOf delivered)) (parent .next)
 
-unfoldable pub readPose : Rest → Took HeadCompletion
-readPose r = orWord (ascii "open") HeadCompletion.Open r (orWord (ascii "abandoned") HeadCompletion.Abandoned r (got HeadCompletion.Open stopped))
+unfoldable pub readUnclaimedEnd : Rest → Took HeadCompletion
+readUnclaimedEnd r = orWord (ascii "open") HeadCompletion.Open r (orWord (ascii "abandoned") HeadCompletion.Abandoned r (got HeadCompletion.Open stopped))
 
 -- ` A P H open` or ` A P H abandoned`
 unfoldable pub readUnclaimed : ℕ → Rest → Took CurrentHead
 readUnclaimed delivered r =
     let held = readDelivery delivered (after (ascii " ") r) in
     let handle = spacedNumber (held .next) in
-    let end = readPose (after (ascii " ") (handle .next)) in
+    let end = readUnclaimedEnd (after (ascii " ") (handle .next)) in
     got (CurrentHead.Unclaimed (record { delivery = held .value; provisional = handle .value; attempt = record { epoch = epochOf 0; end = end .value } })) (end .next)
 
 -- ` A P H`

@@ -1,2 +1,2 @@
--- Poses is the step of a single function.
-pub mod Poses
+-- UnclaimedEnds is the step of a single function.
+pub mod UnclaimedEnds

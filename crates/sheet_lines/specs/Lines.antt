@@ -24,12 +24,12 @@ use Rattle.value_text.specs.declared.page.Page.{Page}
 unfoldable pub countLine : HeadStats → Epoch → List ℕ
 countLine s e = ascii "(count" ++ (statsText s ++ (spacedText (e .0) ++ ascii ")\n"))
 
--- `open` (or `abandoned`): how an unclaimed head's attempt stands
-unfoldable pub poseText : HeadCompletion → List ℕ
-poseText HeadCompletion.Open = ascii "open"
-poseText HeadCompletion.Settled = ascii "open"
-poseText HeadCompletion.Superseded = ascii "open"
-poseText HeadCompletion.Abandoned = ascii "abandoned"
+-- `open` (or `abandoned`): how an unclaimed head's attempt stands. It has no other end (I4); such a value would be written `open`.
+unfoldable pub unclaimedEndText : HeadCompletion → List ℕ
+unclaimedEndText HeadCompletion.Open = ascii "open"
+unclaimedEndText HeadCompletion.Settled = ascii "open"
+unclaimedEndText HeadCompletion.Superseded = ascii "open"
+unclaimedEndText HeadCompletion.Abandoned = ascii "abandoned"
 
 -- `A P`
 unfoldable pub deliveryText : HeadDelivery → List ℕ
@@ -42,7 +42,7 @@ unsettledText u = deliveryText (u .delivery) ++ spacedText (u .provisional)
 -- `(current unclaimed A P H open)` (or `abandoned`), `(current preparing A P H)`, `(current settled A P R)`
 unfoldable pub currentLine : CurrentHead → List ℕ
 currentLine CurrentHead.Absent = ascii "(current none)\n"
-currentLine (CurrentHead.Unclaimed u) = ascii "(current unclaimed " ++ (unsettledText u ++ (ascii " " ++ (poseText (u .attempt .end) ++ ascii ")\n")))
+currentLine (CurrentHead.Unclaimed u) = ascii "(current unclaimed " ++ (unsettledText u ++ (ascii " " ++ (unclaimedEndText (u .attempt .end) ++ ascii ")\n")))
 currentLine (CurrentHead.Preparing u) = ascii "(current preparing " ++ (unsettledText u ++ ascii ")\n")
 currentLine (CurrentHead.Settled s) = ascii "(current settled " ++ (deliveryText (s .delivery) ++ (ascii " " ++ (reportText (s .report) ++ ascii ")\n")))
 

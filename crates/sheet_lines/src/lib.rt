@@ -4,7 +4,7 @@ ghost use Prim.Native.Nat.{_+_, _≤_};
 ghost use lib.ListN.{length};
 ghost use mathlib.Core.List.{_++_};
 ghost use Rattle.script_outcome.specs.Texts.{reportText};
-ghost use Rattle.sheet_lines.specs.Lines.{poseText, deliveryText, unsettledText, currentLine};
+ghost use Rattle.sheet_lines.specs.Lines.{unclaimedEndText, deliveryText, unsettledText, currentLine};
 ghost use Rattle.text.specs.Ascii.{ascii};
 ghost use Rattle.text.specs.Writes.{Wrote};
 use hash_text::put_sheet_hash;
@@ -21,10 +21,10 @@ use text_put::put::put_byte;
 use value_text::anchor::put_anchor;
 use value_text::page::Page;
 
-// Puts how an attempt stands, and the end of its line.
-pub(crate) fn put_pose(buf: &mut [u8], at: usize, end: HeadCompletion) -> usize
+// Puts how an unclaimed head's attempt stands, and the end of its line.
+pub(crate) fn put_unclaimed_end(buf: &mut [u8], at: usize, end: HeadCompletion) -> usize
     requires { ⌜ at + 12 ≤ length (now buf) ⌝ }
-    ensures { λ r. ⌜ Wrote (now (buf .entry)) (now (buf .exit)) at r (ascii " " ++ (poseText end ++ ascii ")\n")) ⌝ }
+    ensures { λ r. ⌜ Wrote (now (buf .entry)) (now (buf .exit)) at r (ascii " " ++ (unclaimedEndText end ++ ascii ")\n")) ⌝ }
     ensures { λ r. ⌜ r ≤ at + 12 ⌝ }
 {
     match end {
@@ -70,7 +70,7 @@ pub(crate) fn put_unclaimed(buf: &mut [u8], at: usize, head: UnsettledHead) -> u
     let end = attempt.end;
     let i = put(buf, at, b"(current unclaimed ");
     let j = put_unsettled(buf, i, head);
-    put_pose(buf, j, end)
+    put_unclaimed_end(buf, j, end)
 }
 
 pub(crate) fn put_preparing(buf: &mut [u8], at: usize, head: UnsettledHead) -> usize

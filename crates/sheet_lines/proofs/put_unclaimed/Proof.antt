@@ -11,7 +11,7 @@ returns c =
     let c3 = c .before .before in
     let c2 = c3 .before .before .before .before in
     let c1 = c2 .before .before .before .before in
-    (then (c1 .put .ensures .0) (then (c2 .put-unsettled .ensures .0) (c3 .put-pose .ensures .0)), omega arith)
+    (then (c1 .put .ensures .0) (then (c2 .put-unsettled .ensures .0) (c3 .put-unclaimed-end .ensures .0)), omega arith)
 
 pub put-unclaimed-spec : {M : Type 1} → statement M
 put-unclaimed-spec = tie.close (tie.spec

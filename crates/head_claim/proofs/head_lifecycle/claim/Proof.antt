@@ -1,6 +1,5 @@
 use Rattle.head_driver.proofs.Replied.{replied}
-use Rattle.head_claim.specs.Claim.{claim}
-use Rattle.head_claim.specs.Parts.{claimAs}
+use Rattle.head_claim.specs.Claim.{claim, claimAs}
 use Rattle.head_claim.proofs.head_lifecycle.claim.Statement.{statement}
 use Rattle.head_claim.proofs.head_lifecycle.claim.Tie as tie
 

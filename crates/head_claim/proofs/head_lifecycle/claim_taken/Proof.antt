@@ -1,5 +1,5 @@
 use Rattle.head_driver.specs.Parts.{withLife}
-use Rattle.head_claim.specs.Parts.{claimAs}
+use Rattle.head_claim.specs.Claim.{claimAs}
 use Rattle.head_claim.proofs.head_lifecycle.claim_taken.Statement.{statement}
 use Rattle.head_claim.proofs.head_lifecycle.claim_taken.Tie as tie
 

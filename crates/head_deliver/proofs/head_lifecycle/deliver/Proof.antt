@@ -1,6 +1,5 @@
 use Rattle.head_driver.proofs.Replied.{replied}
-use Rattle.head_deliver.specs.Deliver.{deliver}
-use Rattle.head_deliver.specs.Parts.{deliverAs}
+use Rattle.head_deliver.specs.Deliver.{deliver, deliverAs}
 use Rattle.head_deliver.proofs.head_lifecycle.deliver.Statement.{statement}
 use Rattle.head_deliver.proofs.head_lifecycle.deliver.Tie as tie
 

@@ -1,4 +1,4 @@
-use Rattle.head_deliver.specs.Parts.{deliverAs}
+use Rattle.head_deliver.specs.Deliver.{deliverAs}
 use Rattle.head_deliver.proofs.head_lifecycle.deliver_new.Statement.{statement}
 use Rattle.head_deliver.proofs.head_lifecycle.deliver_new.Tie as tie
 

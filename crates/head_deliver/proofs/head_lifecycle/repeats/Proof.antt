@@ -1,10 +1,10 @@
 -- `head_deliver::head_lifecycle::repeats` meets its contract: on each way through its code the result is what the definition gives.
-use Rattle.head_deliver.specs.Repeats.{redelivery, repeats}
+use Rattle.head_deliver.specs.Repeats.{repeatOf, repeats}
 use Rattle.head_deliver.proofs.head_lifecycle.repeats.Statement.{statement}
 use Rattle.head_deliver.proofs.head_lifecycle.repeats.Tie as tie
 
 pub repeats-spec : {M : Type 1} → statement M
-unfolding repeats redelivery
+unfolding repeats repeatOf
 repeats-spec = tie.close (tie.spec
     (λ c. c .match .keys1)
     (λ c. c .match .keys2)

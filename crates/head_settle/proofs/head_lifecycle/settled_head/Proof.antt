@@ -9,7 +9,7 @@ settled-head-spec = tie.close (tie.spec
     (λ c. rw (c .enum-told .given .1))
     (λ c. c .match .keys2)
     (λ c κs. tt)
-    (λ c. rw (c .before .before .current .given .1, ← c .settle-unsettled .ensures))
+    (λ c. rw (c .before .before .current .given .1, ← c .settle-unclaimed .ensures))
     (λ c. c .match .keys3)
     (λ c κs. tt)
     (λ c. rw (c .before .before .current2 .given .1, ← c .settle-open .ensures))

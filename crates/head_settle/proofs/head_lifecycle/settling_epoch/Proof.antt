@@ -9,7 +9,7 @@ settling-epoch-spec = tie.close (tie.spec
     (λ c. rw (c .enum-told .given .1))
     (λ c. c .match .keys2)
     (λ c κs. tt)
-    (λ c. rw (c .before .before .current .given .1, ← c .unsettled-epoch .ensures))
+    (λ c. rw (c .before .before .current .given .1, ← c .unclaimed-epoch .ensures))
     (λ c. c .match .keys3)
     (λ c. rw (c .enum-told2 .given .1))
     (λ c. c .match .keys4)

@@ -1,6 +1,6 @@
 -- `head_snapshot::head_lifecycle::viewed` meets its contract: on each way through its code the result is what the definition gives.
 use Rattle.head_driver.specs.Parts.{withLife}
-use Rattle.head_snapshot.specs.Parts.{viewed}
+use Rattle.head_snapshot.specs.Snapshot.{viewed}
 use Rattle.head_snapshot.proofs.head_lifecycle.viewed.Statement.{statement}
 use Rattle.head_snapshot.proofs.head_lifecycle.viewed.Tie as tie
 

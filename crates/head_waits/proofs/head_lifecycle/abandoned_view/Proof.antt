@@ -1,5 +1,5 @@
 -- `head_waits::head_lifecycle::abandoned_view` meets its contract: on each way through its code the result is what the definition gives.
-use Rattle.head_waits.specs.Parts.{abandonedView}
+use Rattle.head_waits.specs.Calls.{abandonedView}
 use Rattle.head_waits.proofs.head_lifecycle.abandoned_view.Statement.{statement}
 use Rattle.head_waits.proofs.head_lifecycle.abandoned_view.Tie as tie
 

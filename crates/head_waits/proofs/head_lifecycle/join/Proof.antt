@@ -1,5 +1,5 @@
 -- `head_waits::head_lifecycle::join` meets its contract: on each way through its code the result is what the definition gives.
-use Rattle.head_waits.specs.Parts.{join}
+use Rattle.head_waits.specs.Calls.{join}
 use Rattle.head_waits.proofs.head_lifecycle.join.Statement.{statement}
 use Rattle.head_waits.proofs.head_lifecycle.join.Tie as tie
 

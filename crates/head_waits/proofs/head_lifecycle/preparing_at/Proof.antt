@@ -7,7 +7,7 @@ use denote.Enum.Declared.{tagOf}
 use Rattle.head_anchor.specs.declared.ReadAnchor.{ReadAnchor}
 use Rattle.head_current.specs.declared.CurrentHead.{CurrentHead}
 use Rattle.head_current.proofs.CurrentHead as T
-use Rattle.head_waits.specs.Parts.{preparingAt}
+use Rattle.head_waits.specs.Calls.{preparingAt}
 use Rattle.head_waits.proofs.head_lifecycle.preparing_at.Statement.{statement}
 use Rattle.head_waits.proofs.head_lifecycle.preparing_at.Tie as tie
 

@@ -1,5 +1,5 @@
 -- `head_waits::head_lifecycle::put` meets its contract: on each way through its code the result is what the definition gives.
-use Rattle.head_waits.specs.Parts.{put}
+use Rattle.head_waits.specs.Calls.{put}
 use Rattle.head_waits.proofs.head_lifecycle.put.Statement.{statement}
 use Rattle.head_waits.proofs.head_lifecycle.put.Tie as tie
 

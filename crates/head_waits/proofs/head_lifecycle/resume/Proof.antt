@@ -10,8 +10,8 @@ use Rattle.head_driver.specs.declared.Answer.{Answer}
 use Rattle.head_driver.specs.declared.Driver.{Driver}
 use Rattle.head_driver.specs.declared.Reply.{Reply}
 use Rattle.head_driver.proofs.Replied.{replied}
-use Rattle.head_waits.specs.Calls.{resume}
-use Rattle.head_waits.specs.Parts.{numbered, resumeAs, resumeRefusal, waiterAt}
+use Rattle.head_waits.specs.Calls.{resume, resumeAs, waiterAt}
+use Rattle.head_waits.specs.Parts.{numbered, resumeRefusal}
 use Rattle.head_waits.proofs.head_lifecycle.resume.Statement.{statement}
 use Rattle.head_waits.proofs.head_lifecycle.resume.Tie as tie
 

@@ -1,5 +1,5 @@
 -- `head_waits::head_lifecycle::unowned` meets its contract: on each way through its code the result is what the definition gives.
-use Rattle.head_waits.specs.Parts.{unowned, unownedReadiness}
+use Rattle.head_waits.specs.Calls.{unowned, unownedReadiness}
 use Rattle.head_waits.proofs.head_lifecycle.unowned.Statement.{statement}
 use Rattle.head_waits.proofs.head_lifecycle.unowned.Tie as tie
 

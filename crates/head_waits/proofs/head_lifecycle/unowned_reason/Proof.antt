@@ -1,5 +1,5 @@
 -- `head_waits::head_lifecycle::unowned_reason` meets its contract: on each way through its code the result is what the definition gives.
-use Rattle.head_waits.specs.Parts.{unownedReason}
+use Rattle.head_waits.specs.Calls.{unownedReason}
 use Rattle.head_waits.proofs.head_lifecycle.unowned_reason.Statement.{statement}
 use Rattle.head_waits.proofs.head_lifecycle.unowned_reason.Tie as tie
 

@@ -1,5 +1,5 @@
 -- `head_waits::head_lifecycle::view_abandoned` meets its contract: on each way through its code the result is what the definition gives.
-use Rattle.head_waits.specs.Parts.{resumeAs}
+use Rattle.head_waits.specs.Calls.{resumeAs}
 use Rattle.head_waits.proofs.head_lifecycle.view_abandoned.Statement.{statement}
 use Rattle.head_waits.proofs.head_lifecycle.view_abandoned.Tie as tie
 

@@ -1,7 +1,7 @@
 -- `head_waits::head_lifecycle::viewed_by` meets its contract: on each way through its code the result is what the definition gives.
 use Rattle.head_driver.specs.Parts.{withLife}
-use Rattle.head_snapshot.specs.Parts.{viewed}
-use Rattle.head_waits.specs.Parts.{put, viewedBy}
+use Rattle.head_snapshot.specs.Snapshot.{viewed}
+use Rattle.head_waits.specs.Calls.{put, viewedBy}
 use Rattle.head_waits.proofs.head_lifecycle.viewed_by.Statement.{statement}
 use Rattle.head_waits.proofs.head_lifecycle.viewed_by.Tie as tie
 

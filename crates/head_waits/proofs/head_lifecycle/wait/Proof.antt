@@ -10,8 +10,8 @@ use Rattle.head_driver.specs.Parts.{replyOf}
 use Rattle.head_driver.specs.declared.Answer.{Answer}
 use Rattle.head_driver.specs.declared.Driver.{Driver}
 use Rattle.head_driver.proofs.Replied.{replied}
-use Rattle.head_waits.specs.Calls.{wait}
-use Rattle.head_waits.specs.Parts.{isFree, join, numbered, waitAs, waitRefusal, waiterAt}
+use Rattle.head_waits.specs.Calls.{join, wait, waitAs, waiterAt}
+use Rattle.head_waits.specs.Parts.{isFree, numbered, waitRefusal}
 use Rattle.head_waits.proofs.head_lifecycle.wait.Statement.{statement}
 use Rattle.head_waits.proofs.head_lifecycle.wait.Tie as tie
 

@@ -1,7 +1,8 @@
 -- `head_waits::head_lifecycle::waiter_at` meets its contract: on each way through its code the result is what the definition gives.
 use borrow.Author.Needs.{needs}
 use borrow.Author.Tests.{lt-ltb, le-ltb}
-use Rattle.head_waits.specs.Parts.{numbered, waiterAt}
+use Rattle.head_waits.specs.Calls.{waiterAt}
+use Rattle.head_waits.specs.Parts.{numbered}
 use Rattle.head_waits.proofs.head_lifecycle.waiter_at.Statement.{statement}
 use Rattle.head_waits.proofs.head_lifecycle.waiter_at.Tie as tie
 

@@ -1,10 +1,10 @@
 use Rattle.head_settle.specs.Settles.{settledHead}
-use Rattle.head_settle.proofs.head_lifecycle.settle_unsettled.Statement.{statement}
-use Rattle.head_settle.proofs.head_lifecycle.settle_unsettled.Tie as tie
+use Rattle.head_settle.proofs.head_lifecycle.settle_unclaimed.Statement.{statement}
+use Rattle.head_settle.proofs.head_lifecycle.settle_unclaimed.Tie as tie
 
-pub settle-unsettled-spec : {M : Type 1} → statement M
+pub settle-unclaimed-spec : {M : Type 1} → statement M
 unfolding settledHead
-settle-unsettled-spec = tie.close (tie.spec
+settle-unclaimed-spec = tie.close (tie.spec
     (λ c κs. tt)
     (λ c κs. tt)
     (λ c κs. tt)
