@@ -1,17 +1,18 @@
 // Answers as lines, into the caller's buffer: those of calls, and those of lines that are no call or ask for a sheet.
 // Knows nothing of calls, nor of the driver that answers them.
 ghost use Prim.Native.Nat.{_+_, _≤_};
+ghost use mathlib.Core.List.{[]};
+ghost use mathlib.Core.Path.{_≡_};
 ghost use lib.ListN.{length};
+ghost use Rattle.head_driver.specs.Answers.{said};
 ghost use Rattle.script_answer.specs.Answers.{answerLine, lineText};
 ghost use Rattle.script_answer.specs.Lines.{answerText};
 ghost use Rattle.script_value.specs.Buffers.{AtFront};
 ghost use Rattle.text.specs.Writes.{Wrote};
 use crate::lines::put_claimed;
 use crate::lines::put_completion;
-use crate::lines::put_done;
 use crate::lines::put_heads;
 use crate::lines::put_link;
-use crate::lines::put_parked;
 use crate::lines::put_report_line;
 use crate::lines::put_stats_line;
 use crate::lines::put_ticket;
@@ -34,6 +35,20 @@ pub enum LineAnswer {
     Sheet(usize),
 }
 
+// An answer without values is a word or a refusal's number alone.
+pub(crate) fn put_bare(buf: &mut [u8], at: usize, answer: Answer) -> usize
+    requires { ⌜ at + 30 ≤ length (now buf) ⌝ }
+    requires { ⌜ said answer .values ≡ [] ⌝ }
+    ensures { λ r. ⌜ Wrote (now (buf .entry)) (now (buf .exit)) at r (answerText answer) ⌝ }
+    ensures { λ r. ⌜ r ≤ at + 30 ⌝ }
+{
+    match answer {
+        Answer::Done => put(buf, at, b"(done)"),
+        Answer::Parked => put(buf, at, b"(parked)"),
+        _ => put_refused(buf, at, answer.number()),
+    }
+}
+
 // No answer is longer than `heads`; the rest of the room is for answers to come.
 pub(crate) fn put_text(buf: &mut [u8], at: usize, answer: Answer) -> usize
     requires { ⌜ at + 511 ≤ length (now buf) ⌝ }
@@ -43,10 +58,8 @@ pub(crate) fn put_text(buf: &mut [u8], at: usize, answer: Answer) -> usize
     match answer {
         Answer::Ticket(seq) => put_ticket(buf, at, seq),
         Answer::Claimed(epoch) => put_claimed(buf, at, epoch),
-        Answer::Done => put_done(buf, at),
         Answer::Outcome(outcome) => put_head_outcome(buf, at, outcome),
         Answer::View(view) => put_view(buf, at, view),
-        Answer::Parked => put_parked(buf, at),
         Answer::Completion(end) => put_completion(buf, at, end),
         Answer::Link(link) => put_link(buf, at, link),
         Answer::Report(report) => put_report_line(buf, at, report),
@@ -58,44 +71,40 @@ pub(crate) fn put_text(buf: &mut [u8], at: usize, answer: Answer) -> usize
             installed,
             previous,
         ),
-        Answer::ListAtOdds => put_refused(buf, at, 2),
-        Answer::WaiterOutOfRange => put_refused(buf, at, 3),
-        Answer::WaiterTaken => put_refused(buf, at, 15),
-        Answer::WaiterFree => put_refused(buf, at, 16),
+        _ => put_bare(buf, at, answer),
     }
 }
 
-// Every answer asks for the same room, so that a host that lends 512 bytes is never refused.
-pub(crate) fn put_answer(buf: &mut [u8], answer: Answer) -> Written
-    ensures { λ r. ⌜ AtFront 512 (now (buf .entry)) (now (buf .exit)) (answerLine answer) r ⌝ }
+// Puts an answer's line at the front of the buffer.
+pub(crate) fn put_answer(buf: &mut [u8], answer: Answer) -> usize
+    requires { ⌜ 512 ≤ length (now buf) ⌝ }
+    ensures { λ r. ⌜ Wrote (now (buf .entry)) (now (buf .exit)) 0 r (answerLine answer) ⌝ }
+    ensures { λ r. ⌜ r ≤ 512 ⌝ }
 {
-    if buf.len() < 512 {
-        return Written::TooShort;
-    }
     let i = put_text(buf, 0, answer);
-    let end = put_byte(buf, i, b'\n');
-    Written::Bytes(end)
+    put_byte(buf, i, b'\n')
 }
 
-// A text of at most 512 bytes, in a buffer of at least as many.
-pub(crate) fn put_line_text(buf: &mut [u8], text: &[u8]) -> Written
-    requires { ⌜ length (now text) ≤ 512 ⌝ }
-    ensures { λ r. ⌜ AtFront 512 (now (buf .entry)) (now (buf .exit)) (now (text .entry)) r ⌝ }
-{
-    if buf.len() < 512 {
-        return Written::TooShort;
-    }
-    Written::Bytes(put(buf, 0, text))
-}
-
-// Writes the answer's line, with its line feed, at the front of a buffer of 512 bytes or more.
-pub fn put_line(buf: &mut [u8], answer: LineAnswer) -> Written
-    ensures { λ r. ⌜ AtFront 512 (now (buf .entry)) (now (buf .exit)) (lineText answer) r ⌝ }
+pub(crate) fn put_line_text(buf: &mut [u8], answer: LineAnswer) -> usize
+    requires { ⌜ 512 ≤ length (now buf) ⌝ }
+    ensures { λ r. ⌜ Wrote (now (buf .entry)) (now (buf .exit)) 0 r (lineText answer) ⌝ }
+    ensures { λ r. ⌜ r ≤ 512 ⌝ }
 {
     match answer {
         LineAnswer::Said(said) => put_answer(buf, said),
-        LineAnswer::NoCall => put_line_text(buf, b"(refused 1)\n"),
-        LineAnswer::SheetTooShort => put_line_text(buf, b"(refused 4)\n"),
-        LineAnswer::Sheet(_) => put_line_text(buf, b""),
+        LineAnswer::NoCall => put(buf, 0, b"(refused 1)\n"),
+        LineAnswer::SheetTooShort => put(buf, 0, b"(refused 4)\n"),
+        LineAnswer::Sheet(_) => 0,
     }
+}
+
+// Writes the answer's line, with its line feed, at the front of a buffer of 512 bytes or more. Every answer asks for the
+// same room, so that a host that lends 512 bytes is never refused.
+pub fn put_line(buf: &mut [u8], answer: LineAnswer) -> Written
+    ensures { λ r. ⌜ AtFront 512 (now (buf .entry)) (now (buf .exit)) (lineText answer) r ⌝ }
+{
+    if buf.len() < 512 {
+        return Written::TooShort;
+    }
+    Written::Bytes(put_line_text(buf, answer))
 }

@@ -16,6 +16,8 @@ use head_count::Seq;
 use head_current::LastReport;
 use head_ready::HeadView;
 use head_ready::Source;
+use script_outcome::put_link_word;
+use script_outcome::put_named;
 use script_ready::readiness::put_readiness;
 use script_ready::report::put_report;
 use script_value::counters::put_stats;
@@ -30,9 +32,7 @@ pub(crate) fn put_ticket(buf: &mut [u8], at: usize, seq: Seq) -> usize
     ensures { λ r. ⌜ Wrote (now (buf .entry)) (now (buf .exit)) at r (answerText (Answer.Ticket seq)) ⌝ }
     ensures { λ r. ⌜ r ≤ at + 29 ⌝ }
 {
-    let i = put(buf, at, b"(ticket ");
-    let j = put_decimal(buf, i, seq.0);
-    put_byte(buf, j, b')')
+    put_named(buf, at, b"(ticket ", seq.0)
 }
 
 pub(crate) fn put_claimed(buf: &mut [u8], at: usize, epoch: Epoch) -> usize
@@ -40,25 +40,7 @@ pub(crate) fn put_claimed(buf: &mut [u8], at: usize, epoch: Epoch) -> usize
     ensures { λ r. ⌜ Wrote (now (buf .entry)) (now (buf .exit)) at r (answerText (Answer.Claimed epoch)) ⌝ }
     ensures { λ r. ⌜ r ≤ at + 30 ⌝ }
 {
-    let i = put(buf, at, b"(claimed ");
-    let j = put_decimal(buf, i, epoch.0);
-    put_byte(buf, j, b')')
-}
-
-pub(crate) fn put_done(buf: &mut [u8], at: usize) -> usize
-    requires { ⌜ at + 6 ≤ length (now buf) ⌝ }
-    ensures { λ r. ⌜ Wrote (now (buf .entry)) (now (buf .exit)) at r (answerText Answer.Done) ⌝ }
-    ensures { λ r. ⌜ r ≤ at + 6 ⌝ }
-{
-    put(buf, at, b"(done)")
-}
-
-pub(crate) fn put_parked(buf: &mut [u8], at: usize) -> usize
-    requires { ⌜ at + 8 ≤ length (now buf) ⌝ }
-    ensures { λ r. ⌜ Wrote (now (buf .entry)) (now (buf .exit)) at r (answerText Answer.Parked) ⌝ }
-    ensures { λ r. ⌜ r ≤ at + 8 ⌝ }
-{
-    put(buf, at, b"(parked)")
+    put_named(buf, at, b"(claimed ", epoch.0)
 }
 
 // Puts `(view SOURCE `, up to the view's handle: each source has its whole text here, so that no word needs a writer of its own.
@@ -108,13 +90,9 @@ pub(crate) fn put_link(buf: &mut [u8], at: usize, link: Link) -> usize
     ensures { λ r. ⌜ Wrote (now (buf .entry)) (now (buf .exit)) at r (answerText (Answer.Link link)) ⌝ }
     ensures { λ r. ⌜ r ≤ at + 22 ⌝ }
 {
-    match link {
-        Link::Linked => put(buf, at, b"(link linked)"),
-        Link::NoParent => put(buf, at, b"(link no-parent)"),
-        Link::NotConsecutive => put(buf, at, b"(link not-consecutive)"),
-        Link::HashUnknown => put(buf, at, b"(link hash-unknown)"),
-        Link::HashMismatch => put(buf, at, b"(link hash-mismatch)"),
-    }
+    let i = put(buf, at, b"(link ");
+    let j = put_link_word(buf, i, link);
+    put_byte(buf, j, b')')
 }
 
 pub(crate) fn put_report_line(buf: &mut [u8], at: usize, report: LastReport) -> usize

@@ -10,8 +10,8 @@ ghost use Rattle.head_driver.specs.declared.Answer.{Answer};
 use head_anchor::CarryOutcome;
 use head_anchor::ReadAnchor;
 use head_ready::HeadOutcome;
+use script_outcome::put_named;
 use script_outcome::put_outcome;
-use text_put::decimal::put_decimal;
 use text_put::put::put;
 use text_put::put::put_byte;
 use value_text::anchor::put_anchor;
@@ -23,9 +23,7 @@ pub(crate) fn put_refused(buf: &mut [u8], at: usize, n: u64) -> usize
     ensures { λ r. ⌜ Wrote (now (buf .entry)) (now (buf .exit)) at r (ascii "(refused " ++ (decimal n ++ ascii ")")) ⌝ }
     ensures { λ r. ⌜ r ≤ at + 30 ⌝ }
 {
-    let i = put(buf, at, b"(refused ");
-    let j = put_decimal(buf, i, n);
-    put_byte(buf, j, b')')
+    put_named(buf, at, b"(refused ", n)
 }
 
 pub(crate) fn put_settled(buf: &mut [u8], at: usize, outcome: CarryOutcome) -> usize

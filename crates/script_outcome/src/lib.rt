@@ -4,7 +4,7 @@
 ghost use Prim.Native.Nat.{_+_, _≤_};
 ghost use mathlib.Core.List.{_++_};
 ghost use lib.ListN.{length};
-ghost use Rattle.script_outcome.specs.Texts.{faultText, coldText, outcomeText};
+ghost use Rattle.script_outcome.specs.Texts.{faultText, linkText, coldText, outcomeText};
 ghost use Rattle.value_text.specs.Texts.{skipText};
 ghost use Rattle.text.specs.Ascii.{ascii};
 ghost use Rattle.text.specs.Decimals.{decimal};
@@ -31,8 +31,20 @@ pub(crate) fn put_fault(buf: &mut [u8], at: usize, link: Link) -> usize
     }
 }
 
+// Puts how a link stands: `linked`, or what is wrong with it.
+pub fn put_link_word(buf: &mut [u8], at: usize, link: Link) -> usize
+    requires { ⌜ at + 15 ≤ length (now buf) ⌝ }
+    ensures { λ r. ⌜ Wrote (now (buf .entry)) (now (buf .exit)) at r (linkText link) ⌝ }
+    ensures { λ r. ⌜ r ≤ at + 15 ⌝ }
+{
+    match link {
+        Link::Linked => put(buf, at, b"linked"),
+        _ => put_fault(buf, at, link),
+    }
+}
+
 // Puts a number behind its name, which begins with a bracket and ends with a space, and closes the bracket.
-pub(crate) fn put_named(buf: &mut [u8], at: usize, name: &[u8], n: u64) -> usize
+pub fn put_named(buf: &mut [u8], at: usize, name: &[u8], n: u64) -> usize
     requires { ⌜ at + (length (now name) + 21) ≤ length (now buf) ⌝ }
     ensures { λ r. ⌜ Wrote (now (buf .entry)) (now (buf .exit)) at r (now (name .entry) ++ (decimal n ++ ascii ")")) ⌝ }
     ensures { λ r. ⌜ r ≤ at + (length (now (name .entry)) + 21) ⌝ }

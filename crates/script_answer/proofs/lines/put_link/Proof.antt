@@ -1,37 +1,22 @@
 use native.Mathlib.Omega.{arith}
 use borrow.Author.Needs.{needs}
-use Rattle.head_anchor.specs.Values.{linkValue}
 use Rattle.head_driver.specs.Answers.{said}
-use Rattle.value_text.specs.Values.{valueText, valuesOn}
+use Rattle.script_outcome.specs.Texts.{linkText}
+use Rattle.value_text.specs.Values.{valuesOn}
 use Rattle.value_text.specs.Words.{wordText}
+use Rattle.text.proofs.Writes.{then}
 use Rattle.script_answer.specs.Lines.{answerText, refusalOn, saidText}
 use Rattle.script_answer.proofs.lines.put_link.Statement.{statement}
 use Rattle.script_answer.proofs.lines.put_link.Tie as tie
 
 returns : tie.Need-returns
-unfolding answerText saidText said linkValue refusalOn valuesOn valueText wordText
-returns c = (rw (c .before .before .before .before .before .enum-told .given .1) (c .before .before .put .ensures .0), omega arith)
-
-returns-2 : tie.Need-returns-2
-unfolding answerText saidText said linkValue refusalOn valuesOn valueText wordText
-returns-2 c = (rw (c .before .before .before .before .before .enum-told2 .given .1) (c .before .before .put2 .ensures .0), omega arith)
-
-returns-3 : tie.Need-returns-3
-unfolding answerText saidText said linkValue refusalOn valuesOn valueText wordText
-returns-3 c = (rw (c .before .before .before .before .before .enum-told3 .given .1) (c .before .before .put3 .ensures .0), omega arith)
-
-returns-4 : tie.Need-returns-4
-unfolding answerText saidText said linkValue refusalOn valuesOn valueText wordText
-returns-4 c = (rw (c .before .before .before .before .before .enum-told4 .given .1) (c .before .before .put4 .ensures .0), omega arith)
-
-returns-5 : tie.Need-returns-5
-unfolding answerText saidText said linkValue refusalOn valuesOn valueText wordText
-returns-5 c = (rw (c .before .before .before .before .before .enum-told5 .given .1) (c .before .before .put5 .ensures .0), omega arith)
+unfolding answerText saidText said refusalOn valuesOn wordText linkText
+returns c =
+    let c3 = c .before .before in
+    let c2 = c3 .before .before .before .before in
+    let c1 = c2 .before .before .before .before in
+    (then (c1 .put .ensures .0) (then (c2 .put-link-word .ensures .0) (c3 .put-byte .ensures .0)), omega arith)
 
 pub put-link-spec : {M : Type 1} → statement M
 put-link-spec = tie.close (tie.spec
-    (λ c. c .match .keys1) (search needs) (search needs) (λ c. c .match .keys2) (search needs)
-    (search needs) (λ c. c .match .keys3) (search needs) (search needs) (λ c. c .match .keys4)
-    (search needs) (search needs) (λ c. c .match .keys5) (search needs) (search needs)
-    (search needs) returns (search needs) returns-2 (search needs) returns-3 (search needs)
-    returns-4 (search needs) returns-5)
+    (search needs) (search needs) (search needs) (search needs) (search needs) returns)
