@@ -14,6 +14,6 @@ answer-some-spec = tie.close (tie.spec
     (λ c. search fed-count)
     (λ c κs. tt)
     (search needs)
-    (λ c. search written)
+    (λ c. search not-written)
     (search needs)
-    (λ c. search not-written))
+    (λ c. search written))

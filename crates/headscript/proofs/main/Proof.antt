@@ -1,5 +1,5 @@
 -- `main` is safe and ends: the measure is the number of reads that are left.
-use mathlib.Core.Path.{_≡_, refl}
+use mathlib.Core.Path.{_≡_}
 use lib.ListN.{length}
 use native.Mathlib.Omega.{arith}
 use borrow.Author.Needs.{needs}
@@ -15,7 +15,9 @@ abbrev μ-loop : tie.MeasureT-loop
 pub main-spec : {M : Type 1} → statement M
 main-spec = tie.close (tie.spec Inv-loop μ-loop
     (λ c κs. tt)
-    (λ c. refl)
+    (search needs)
+    (λ c κs. tt)
+    (search needs)
     (search needs)
     (λ c κs. tt)
     (λ c. omega arith)

@@ -1,6 +1,6 @@
--- Nothing was read, and the input ends; or what was read is answered.
+-- What was read is answered, and where nothing was the input ends.
 use borrow.Author.Needs.{needs}
-use Rattle.headscript.proofs.Answering.{ended, moved}
+use Rattle.headscript.proofs.Answering.{moved}
 use Rattle.headscript.proofs.read_some.Statement.{statement}
 use Rattle.headscript.proofs.read_some.Tie as tie
 
@@ -15,7 +15,5 @@ read-some-spec = tie.close (tie.spec
     (search needs)
     (search needs)
     (λ c κs. tt)
-    (search needs)
-    (λ c. search ended)
     (search needs)
     (λ c. search moved))
