@@ -35,11 +35,12 @@ fn answer_all(d: Driver, pending: &mut [u8], held: usize, input: &[u8]) -> Fed
     };
     let mut at = 0;
     while at < input.len() {
-        fed = answer_some(fed.driver, pending, fed.held, &input[at..]);
-        if fed.taken == 0 {
-            return fed;
+        let next = answer_some(fed.driver, pending, fed.held, &input[at..]);
+        if next.taken == 0 {
+            return next;
         }
-        at += fed.taken;
+        at += next.taken;
+        fed = next;
     }
     fed.taken = at;
     fed
@@ -69,10 +70,17 @@ fn read_some(d: Driver, pending: &mut [u8], held: usize) -> Fed
 // A proved loop has to end, and nothing says that an input does. So the loop counts its reads down, from a number that no run uses up.
 fn main() {
     let mut pending = [0u8; 513];
-    let mut now = read_some(new(), &mut pending, 0);
+    let mut now = Fed {
+        driver: new(),
+        held: 0,
+        taken: 0,
+        written: 0,
+    };
+    let mut more = true;
     let mut turns = u64::MAX;
-    while turns > 0 && now.taken > 0 {
+    while turns > 0 && more {
         now = read_some(now.driver, &mut pending, now.held);
+        more = now.taken > 0;
         turns -= 1;
     }
 }
