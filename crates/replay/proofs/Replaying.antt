@@ -2,13 +2,17 @@
 use Prim.Native.Nat.{ℕ, zero, suc, _+_, _-_, _≤_, _<_}
 use native.Mathlib.Nat.{not-suc-le-zero}
 use native.Mathlib.Omega.{arith}
-use mathlib.Core.Bool.{Bool}
+use mathlib.Core.Bool.{Bool, true, false}
 use mathlib.Core.List.{List, [], _∷_, _++_}
 use mathlib.Core.Path.{_≡_, refl, ap, _∙_}
+use lib.Dec.{eqb, ltb}
 use lib.ListN.{length, take, drop, getD, length-append, length-drop}
 use lib.Seq.{take-all, take-append-seam}
-use borrow.Author.Tests.{eq-eqb, le-leb, ne-eqb}
+use borrow.Author.Tests.{eq-eqb, eqb-false, eqb-true, le-leb, ltb-false, ltb-true, ne-eqb}
 use Rattle.hash.specs.Logic.{if}
+use Rattle.head_count.specs.Counters.{up}
+use Rattle.pending.proofs.Feeds.{through-some}
+use Rattle.pending.specs.Kept.{Keeps, throughFeed}
 use Rattle.script.specs.Feeds.{Finishes, lastPrints, lent, reading}
 use Rattle.script.specs.Parts.{Prints, atFront}
 use Rattle.text.specs.Places.{Reads, here}
@@ -16,11 +20,13 @@ use Rattle.text.specs.Rests.{readNumber}
 use Rattle.text.specs.Writes.{Wrote}
 use Rattle.text.proofs.Writes.{then}
 use Rattle.head_driver.specs.declared.Driver.{Driver}
+use Rattle.pending.specs.declared.Kept.{Kept}
 use Rattle.script.specs.declared.Printed.{Printed}
 use Rattle.text.specs.declared.place.Place.{Place}
-use Rattle.replay.specs.Recordings.{Collects, TakesAnswer, TakesRecord, afterAnswer, afterCall, callCompared, markOf, numberOf, recorded, runBegun, sameFront}
+use Rattle.replay.specs.Recordings.{Collects, Counts, TakesAnswer, TakesRecord, afterAnswer, afterCall, atRun, begun, callCompared, compared, fresh, markOf, numberOf, recorded, runBegun, sameFront}
 use Rattle.replay.specs.declared.Replay.{Replay}
 use Rattle.replay.specs.declared.Standing.{Standing}
+use Rattle.replay.specs.declared.Tally.{Tally}
 
 -- ---- the mark and the number
 
@@ -145,3 +151,69 @@ module _ (d : Driver) (s : Standing) (line want out : List ℕ) (kind : ℕ) (e 
     other = λ p q. refl;
     answer = λ k. rw (e ∙ k) at takes;
   })
+
+-- ---- how the counts move
+
+up-more : (n : ℕ) → n ≤ up n
+unfolding up
+up-more n = go (ltb n 0xffff_ffff_ffff_ffff)
+  where
+    go : (b : Bool) → n ≤ if b (n + 1) n
+    go true = omega arith
+    go false = omega arith
+
+up-keeps : (m n : ℕ) → m ≤ n → up m ≤ up n
+unfolding up
+up-keeps m n h = go (ltb m 0xffff_ffff_ffff_ffff) (ltb n 0xffff_ffff_ffff_ffff) refl refl
+  where
+    go : (b c : Bool) → ltb m 0xffff_ffff_ffff_ffff ≡ b → ltb n 0xffff_ffff_ffff_ffff ≡ c → if b (m + 1) m ≤ if c (n + 1) n
+    go true true p q = omega arith
+    go true false p q = let x = ltb-true m 0xffff_ffff_ffff_ffff p in let y = ltb-false n 0xffff_ffff_ffff_ffff q in omega arith
+    go false true p q = omega arith
+    go false false p q = h
+
+counts-begun : (t : Tally) → Counts t (begun t)
+unfolding begun
+counts-begun t = record { runs = up-more (t .runs); answers = omega arith; differences = omega arith; fewer = λ h. h }
+
+counts-compared : (t : Tally) (equal : Bool) → Counts t (compared t equal)
+unfolding compared
+counts-compared t true = let a = up-more (t .answers) in record { runs = omega arith; answers = a; differences = omega arith; fewer = λ h. omega arith }
+counts-compared t false = record { runs = omega arith; answers = up-more (t .answers); differences = up-more (t .differences); fewer = up-keeps (t .differences) (t .answers) }
+
+pub counts-none : (t : Tally) → Counts t t
+counts-none t = record { runs = omega arith; answers = omega arith; differences = omega arith; fewer = λ h. h }
+
+counts-then : (t u v : Tally) → Counts t u → Counts u v → Counts t v
+counts-then t u v p q =
+    let p1 = p .runs in let p2 = p .answers in let p3 = p .differences in
+    let q1 = q .runs in let q2 = q .answers in let q3 = q .differences in
+    record { runs = omega arith; answers = omega arith; differences = omega arith; fewer = λ h. q .fewer (p .fewer h) }
+
+record-counts : (d : Driver) (s : Standing) (line want want′ out : List ℕ) (r : Replay) → TakesRecord d s line want want′ out r → Counts (s .tally) (r .standing .tally)
+unfolding afterAnswer afterCall atRun callCompared runBegun
+record-counts d s line want want′ out r takes = go (eqb (markOf line (s .held)) 62) (eqb (markOf line (s .held)) 35) refl refl
+  where
+    tallies : (x : Replay) → r ≡ x → Counts (s .tally) (x .standing .tally) → Counts (s .tally) (r .standing .tally)
+    tallies x e c = rw e c
+    go : (b c : Bool) → eqb (markOf line (s .held)) 62 ≡ b → eqb (markOf line (s .held)) 35 ≡ c → Counts (s .tally) (r .standing .tally)
+    go true c p q = tallies _ (takes .call (eqb-true _ _ p)) (counts-compared _ _)
+    go false true p q = tallies _ (takes .run (eqb-true _ _ q)) (counts-begun _)
+    go false false p q = tallies _ (takes .other (eqb-false _ _ p) (eqb-false _ _ q)) (counts-none _)
+
+-- the loop: a line's record follows what was counted before
+pub record-follows : (t : Tally) (d : Driver) (s : Standing) (line want want′ out : List ℕ) (r : Replay) → Counts t (s .tally) → TakesRecord d s line want want′ out r
+    → Counts t (r .standing .tally)
+record-follows t d s line want want′ out r p takes = counts-then _ _ _ p (record-counts d s line want want′ out r takes)
+
+-- each turn takes a byte at least
+pub less-left : (old : List ℕ) (held : ℕ) (new input : List ℕ) (at : ℕ) (r : Kept) → Keeps old held new input at r → at < length input → length input - r .at < length input - at
+less-left old held new input at r keeps h =
+    let l = length-drop at input in
+    let s : 0 < length (throughFeed (drop at input)) = through-some (drop at input) (omega arith) in
+    let p = keeps .place in
+    omega arith
+
+pub fresh-fewer : (r : Replay) → r ≡ fresh → r .standing .tally .differences ≤ r .standing .tally .answers
+unfolding fresh
+fresh-fewer r e = rw e (omega arith)

@@ -57,7 +57,7 @@ unfoldable pub numberOf : List ℕ → ℕ → ℕ
 numberOf line held = if (leb held (length line)) (readNumber (here (take held line) (Place.At 1)) .value) 0
 
 unfoldable pub atRun : Standing → Standing
-atRun s = record { tally = begun (s .tally); wanted = 0; held = 0; at = s .at; more = s .more }
+atRun s = record { tally = begun (s .tally); wanted = 0; held = 0 }
 
 unfoldable pub runBegun : Standing → ℕ → Replay
 runBegun s n = record { driver = started n; standing = atRun s }
@@ -73,10 +73,10 @@ unfoldable pub recorded : List ℕ → ℕ → List ℕ → Bool
 recorded want wanted text = both (leb wanted (length want)) (sameText (take wanted want) text)
 
 unfoldable pub afterAnswer : Standing → ℕ → Standing
-afterAnswer s wanted = record { tally = s .tally; wanted = wanted; held = 0; at = s .at; more = s .more }
+afterAnswer s wanted = record { tally = s .tally; wanted = wanted; held = 0 }
 
 unfoldable pub afterCall : Standing → Bool → Standing
-afterCall s equal = record { tally = compared (s .tally) equal; wanted = 0; held = 0; at = s .at; more = s .more }
+afterCall s equal = record { tally = compared (s .tally) equal; wanted = 0; held = 0 }
 
 -- the call is made, as the last line of an input is answered, and its answer is compared with what was collected
 unfoldable pub callCompared : Driver → Standing → List ℕ → ℕ → List ℕ → List ℕ → Replay
@@ -97,3 +97,14 @@ pub record TakesRecord (d : Driver) (s : Standing) (line want want′ out : List
   pub run : markOf line (s .held) ≡ 35 → r ≡ runBegun s (numberOf line (s .held))
   pub other : (markOf line (s .held) ≡ 62 → ⊥) → (markOf line (s .held) ≡ 35 → ⊥) → r ≡ record { driver = d; standing = afterAnswer s (r .standing .wanted) }
   pub answer : markOf line (s .held) ≡ 60 → TakesAnswer 60 (s .wanted) line (s .held) want want′ (r .standing .wanted)
+
+-- before the first line
+unfoldable pub fresh : Replay
+fresh = record { driver = started 0; standing = record { tally = record { runs = 0; answers = 0; differences = 0 }; wanted = 0; held = 0 } }
+
+-- how the counts move, whatever lines come: none falls, and there are never more differences than answers
+pub record Counts (t r : Tally) : Type 0 where
+  pub runs : t .runs ≤ r .runs
+  pub answers : t .answers ≤ r .answers
+  pub differences : t .differences ≤ r .differences
+  pub fewer : t .differences ≤ t .answers → r .differences ≤ r .answers

@@ -4,7 +4,7 @@ ghost use Prim.Native.Nat.{_≤_};
 ghost use mathlib.Core.Path.{_≡_};
 ghost use lib.ListN.{length};
 ghost use Rattle.head_count.specs.Counters.{statsOf, up};
-ghost use Rattle.replay.specs.Recordings.{Collects, TakesAnswer, TakesRecord, afterAnswer, afterCall, atRun, begun, callCompared, compared, markOf, numberOf, runBegun, sameFront, started};
+ghost use Rattle.replay.specs.Recordings.{Collects, Counts, TakesAnswer, TakesRecord, afterAnswer, afterCall, atRun, begun, callCompared, compared, fresh, markOf, numberOf, runBegun, sameFront, started};
 use head_anchor::AnchorSlot;
 use head_attempt::Waiter;
 use head_attempt::WaiterSlot;
@@ -30,14 +30,11 @@ struct Tally {
     differences: u64,
 }
 
-// Where a replay stands: what was counted, how many bytes of the next call's answer were collected, how many bytes of a line are held, the
-// place in what was read, and whether there may be more.
+// Where a replay stands: what was counted, how many bytes of the next call's answer were collected, and how many bytes of a line are held.
 struct Standing {
     tally: Tally,
     wanted: usize,
     held: usize,
-    at: usize,
-    more: bool,
 }
 
 // The same with the run's driver.
@@ -186,7 +183,6 @@ fn after_call(s: Standing, equal: bool) -> Standing
         tally: compared(s.tally, equal),
         wanted: 0,
         held: 0,
-        ..s
     }
 }
 
@@ -218,7 +214,6 @@ fn at_run(s: Standing) -> Standing
         tally: begun(s.tally),
         wanted: 0,
         held: 0,
-        ..s
     }
 }
 
@@ -262,29 +257,7 @@ fn record_taken(d: Driver, s: Standing, line: &[u8], want: &mut [u8], out: &mut 
     }
 }
 
-// What was read, up to the end of a line or to its end.
-fn line_taken(
-    start: Replay,
-    pending: &mut [u8],
-    input: &[u8],
-    want: &mut [u8],
-    out: &mut [u8],
-) -> Replay
-    requires { ⌜ 513 ≤ length (now pending) ⌝ }
-{
-    let mut s = start.standing;
-    let kept = keep(pending, s.held, input, s.at);
-    s.held = kept.held;
-    s.at = kept.at;
-    if kept.ended {
-        return record_taken(start.driver, s, pending, want, out);
-    }
-    let mut next = start;
-    next.standing = s;
-    next
-}
-
-// All that a read brought. Each turn takes a byte at least, so there are no more turns than bytes.
+// All that a read brought. Each turn takes the input up to the end of a line, or to its end.
 fn lines_taken(
     start: Replay,
     pending: &mut [u8],
@@ -293,18 +266,41 @@ fn lines_taken(
     out: &mut [u8],
 ) -> Replay
     requires { ⌜ 513 ≤ length (now pending) ⌝ }
+    ensures { λ r. ⌜ Counts (start .standing .tally) (r .standing .tally) ⌝ }
 {
-    let mut s = start.standing;
-    s.at = 0;
-    s.more = input.len() > 0;
     let mut now = start;
-    now.standing = s;
-    let mut turns = input.len();
-    while turns > 0 && now.standing.at < input.len() {
-        now = line_taken(now, pending, input, want, out);
-        turns -= 1;
+    let mut at = 0;
+    while at < input.len() {
+        let mut s = now.standing;
+        let kept = keep(pending, s.held, input, at);
+        s.held = kept.held;
+        at = kept.at;
+        if kept.ended {
+            now = record_taken(now.driver, s, pending, want, out);
+        } else {
+            now.standing = s;
+        }
     }
     now
+}
+
+// Before the first line.
+fn fresh() -> Replay
+    ensures { λ r. ⌜ r ≡ fresh ⌝ }
+{
+    let standing = Standing {
+        tally: Tally {
+            runs: 0,
+            answers: 0,
+            differences: 0,
+        },
+        wanted: 0,
+        held: 0,
+    };
+    Replay {
+        driver: started(0),
+        standing,
+    }
 }
 
 fn print(t: Tally) {
@@ -317,31 +313,21 @@ fn print(t: Tally) {
 }
 
 // A proved loop has to end, and nothing says that a file does. So the loop counts its reads down, from a number that no run uses up.
-fn counted(fd: i32) -> Tally {
+fn counted(fd: i32) -> Tally
+    ensures { λ r. ⌜ r .differences ≤ r .answers ⌝ }
+{
     let mut pending = [0u8; 514];
     let mut want = [0u8; 4096];
     let mut out = [0u8; 4096];
     let mut input = io::large_buffer();
-    let standing = Standing {
-        tally: Tally {
-            runs: 0,
-            answers: 0,
-            differences: 0,
-        },
-        wanted: 0,
-        held: 0,
-        at: 0,
-        more: true,
-    };
-    let mut now = Replay {
-        driver: started(0),
-        standing,
-    };
+    let mut now = fresh();
+    let mut more = true;
     let mut turns = u64::MAX;
-    while turns > 0 && now.standing.more {
+    while turns > 0 && more {
         let got = libc::read(fd, &mut input);
         let n = io::count(got, &input);
         now = lines_taken(now, &mut pending, &input[..n], &mut want, &mut out);
+        more = n > 0;
         turns -= 1;
     }
     now.standing.tally
