@@ -196,6 +196,7 @@ record-counts d s line want want′ out r takes = go (eqb (markOf line (s .held)
   where
     tallies : (x : Replay) → r ≡ x → Counts (s .tally) (x .standing .tally) → Counts (s .tally) (r .standing .tally)
     tallies x e c = rw e c
+
     go : (b c : Bool) → eqb (markOf line (s .held)) 62 ≡ b → eqb (markOf line (s .held)) 35 ≡ c → Counts (s .tally) (r .standing .tally)
     go true c p q = tallies _ (takes .call (eqb-true _ _ p)) (counts-compared _ _)
     go false true p q = tallies _ (takes .run (eqb-true _ _ q)) (counts-begun _)

@@ -3,12 +3,8 @@
 ghost use Prim.Native.Nat.{_<_};
 ghost use mathlib.Core.Path.{_≡_};
 ghost use lib.ListN.{getD, length};
-ghost use Rattle.driver.specs.Turns.{turnOf};
-ghost use Rattle.head_driver.specs.New.{new};
 ghost use Rattle.script.specs.Feeds.{reading};
-ghost use Rattle.script_call.specs.Calls.{call};
-ghost use Rattle.script_edges.specs.Plays.{TakesByte, afresh};
-ghost use Rattle.text.specs.Ascii.{ascii};
+ghost use Rattle.script_edges.specs.Plays.{AsksSheet, Plays, TakesByte, afresh, sheetLeft};
 use driver::LineAnswer;
 use driver::put_line;
 use driver::take_line;
@@ -33,11 +29,9 @@ fn afresh() -> Fed
 }
 
 // The first n bytes of a buffer; nothing where it has fewer.
-fn show(buf: &[u8], n: usize) -> bool {
+fn show(buf: &[u8], n: usize) {
     if n <= buf.len() {
-        io::write_all(STDOUT_FILENO, &buf[..n])
-    } else {
-        false
+        io::write_all(STDOUT_FILENO, &buf[..n]);
     }
 }
 
@@ -53,30 +47,24 @@ fn play_byte(d: Driver, pending: &mut [u8], held: usize, input: &[u8], at: usize
     fed
 }
 
-// The answer to a last line without its line feed, if there is one.
-fn print_last(d: Driver, pending: &[u8], held: usize) {
+// The end of a script: the answer to a last line without its line feed, if there is one, and the mark.
+fn end_script(d: Driver, pending: &[u8], held: usize) {
     let mut out = io::buffer();
     let printed = finish(d, pending, held, &mut out);
     show(&out, printed.written);
-}
-
-// The end of a script: its last line is answered, and the next script begins.
-fn end_script(d: Driver, pending: &mut [u8], held: usize) -> Fed
-    ensures { λ r. ⌜ r ≡ afresh ⌝ }
-{
-    print_last(d, pending, held);
     io::write_all(STDOUT_FILENO, b"%\n");
-    afresh()
 }
 
+// The next byte: a mark, after which the next script begins, or a byte of the script.
 fn next(fed: Fed, pending: &mut [u8], input: &[u8], at: usize) -> Fed
     requires { ⌜ at < length (now input) ⌝ }
+    ensures { λ r. ⌜ Plays (reading (fed .driver) (now (pending .entry)) (fed .held)) (reading (r .driver) (now (pending .exit)) (r .held)) (getD (now (input .entry)) at 0) r ⌝ }
 {
     if input[at] == b'%' {
-        end_script(fed.driver, pending, fed.held)
-    } else {
-        play_byte(fed.driver, pending, fed.held, input, at)
+        end_script(fed.driver, pending, fed.held);
+        return afresh();
     }
+    play_byte(fed.driver, pending, fed.held, input, at)
 }
 
 fn play(input: &[u8]) {
@@ -89,17 +77,16 @@ fn play(input: &[u8]) {
     }
 }
 
-fn show_line(answer: LineAnswer) -> bool {
+fn show_line(answer: LineAnswer) {
     let mut out = io::buffer();
-    match put_line(&mut out, answer) {
-        Written::TooShort => false,
-        Written::Bytes(n) => show(&out, n),
+    if let Written::Bytes(n) = put_line(&mut out, answer) {
+        show(&out, n);
     }
 }
 
 // What a new driver answers to `(sheet)` with a lent buffer.
 fn sheet_asked(buf: &mut [u8]) -> LineAnswer
-    ensures { λ r. ⌜ r ≡ turnOf new (call (ascii "(sheet)")) (now (buf .entry)) .answer ⌝ }
+    ensures { λ r. ⌜ AsksSheet (now (buf .entry)) (now (buf .exit)) r ⌝ }
 {
     let turn = take_line(new(), b"(sheet)", buf);
     let answer = turn.answer;
@@ -107,12 +94,15 @@ fn sheet_asked(buf: &mut [u8]) -> LineAnswer
 }
 
 // `(sheet)` of a new driver into a lent buffer: the sheet that stands there, or the refusal's line.
-fn show_sheet(buf: &mut [u8]) -> bool {
+fn show_sheet(buf: &mut [u8])
+    ensures { λ r. ⌜ now (buf .exit) ≡ sheetLeft (now (buf .entry)) ⌝ }
+{
     let answer = sheet_asked(buf);
     if let LineAnswer::Sheet(n) = answer {
-        return show(buf, n);
+        show(buf, n);
+    } else {
+        show_line(answer);
     }
-    show_line(answer)
 }
 
 fn main() {

@@ -1,4 +1,4 @@
--- The turn's answer, of the new driver that is made for it.
+-- The turn's answer and its sheet, of the new driver that is made for it.
 use mathlib.Core.Path.{ap}
 use borrow.Author.Needs.{needs}
 use Rattle.driver.specs.declared.Turn.{Turn}
@@ -11,4 +11,7 @@ sheet-asked-spec = tie.close (tie.spec
     (search needs)
     (λ c κs. tt)
     (search needs)
-    (λ c. ap (λ (t : Turn). t .answer) (rw (c .before .before .before .before .before .new .ensures) at (c .before .before .take-line .ensures .turned))))
+    (λ c. record {
+      answer = ap (λ (t : Turn). t .answer) (rw (c .before .before .before .before .before .new .ensures) at (c .before .before .take-line .ensures .turned));
+      sheet = rw (c .before .before .before .before .before .new .ensures) at (c .before .before .take-line .ensures .sheet);
+    }))
