@@ -88,9 +88,7 @@ fn show_line(answer: LineAnswer) {
 fn sheet_asked(buf: &mut [u8]) -> LineAnswer
     ensures { λ r. ⌜ AsksSheet (now (buf .entry)) (now (buf .exit)) r ⌝ }
 {
-    let turn = take_line(new(), b"(sheet)", buf);
-    let answer = turn.answer;
-    answer
+    take_line(new(), b"(sheet)", buf).answer
 }
 
 // `(sheet)` of a new driver into a lent buffer: the sheet that stands there, or the refusal's line.
