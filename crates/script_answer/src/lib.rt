@@ -1,12 +1,14 @@
 // Answers as lines, into the caller's buffer: those of calls, and those of lines that are no call or ask for a sheet.
 // Knows nothing of calls, nor of the driver that answers them.
 ghost use Prim.Native.Nat.{_+_, _≤_};
+ghost use mathlib.Core.Bool.{true};
 ghost use mathlib.Core.List.{[]};
 ghost use mathlib.Core.Path.{_≡_};
 ghost use lib.ListN.{length};
 ghost use Rattle.head_driver.specs.Answers.{said};
 ghost use Rattle.script_answer.specs.Answers.{answerLine, lineText};
 ghost use Rattle.script_answer.specs.Lines.{answerText};
+ghost use Rattle.script_answer.specs.Parts.{isRead};
 ghost use Rattle.script_value.specs.Buffers.{AtFront};
 ghost use Rattle.text.specs.Writes.{Wrote};
 use crate::lines::put_claimed;
@@ -49,17 +51,14 @@ pub(crate) fn put_bare(buf: &mut [u8], at: usize, answer: Answer) -> usize
     }
 }
 
-// No answer is longer than `heads`; the rest of the room is for answers to come.
-pub(crate) fn put_text(buf: &mut [u8], at: usize, answer: Answer) -> usize
+// The answers of the calls that only read, and those without values.
+pub(crate) fn put_read(buf: &mut [u8], at: usize, answer: Answer) -> usize
     requires { ⌜ at + 511 ≤ length (now buf) ⌝ }
+    requires { ⌜ isRead answer ≡ true ⌝ }
     ensures { λ r. ⌜ Wrote (now (buf .entry)) (now (buf .exit)) at r (answerText answer) ⌝ }
     ensures { λ r. ⌜ r ≤ at + 511 ⌝ }
 {
     match answer {
-        Answer::Ticket(seq) => put_ticket(buf, at, seq),
-        Answer::Claimed(epoch) => put_claimed(buf, at, epoch),
-        Answer::Outcome(outcome) => put_head_outcome(buf, at, outcome),
-        Answer::View(view) => put_view(buf, at, view),
         Answer::Completion(end) => put_completion(buf, at, end),
         Answer::Link(link) => put_link(buf, at, link),
         Answer::Report(report) => put_report_line(buf, at, report),
@@ -72,6 +71,21 @@ pub(crate) fn put_text(buf: &mut [u8], at: usize, answer: Answer) -> usize
             previous,
         ),
         _ => put_bare(buf, at, answer),
+    }
+}
+
+// No answer is longer than `heads`; the rest of the room is for answers to come.
+pub(crate) fn put_text(buf: &mut [u8], at: usize, answer: Answer) -> usize
+    requires { ⌜ at + 511 ≤ length (now buf) ⌝ }
+    ensures { λ r. ⌜ Wrote (now (buf .entry)) (now (buf .exit)) at r (answerText answer) ⌝ }
+    ensures { λ r. ⌜ r ≤ at + 511 ⌝ }
+{
+    match answer {
+        Answer::Ticket(seq) => put_ticket(buf, at, seq),
+        Answer::Claimed(epoch) => put_claimed(buf, at, epoch),
+        Answer::Outcome(outcome) => put_head_outcome(buf, at, outcome),
+        Answer::View(view) => put_view(buf, at, view),
+        _ => put_read(buf, at, answer),
     }
 }
 
