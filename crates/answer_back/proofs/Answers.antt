@@ -4,14 +4,15 @@ use native.Mathlib.Omega.{arith}
 use mathlib.Core.List.{List, [], _++_}
 use mathlib.Core.Path.{_≡_, refl, ap, sym, _∙_}
 use Rattle.head_driver.specs.Answers.{outcomeSaid, said, statsValues}
-use Rattle.script_back.proofs.Anchors.{anchor-back, slot-back, spaced-back, spaced-run, stats-back}
+use Rattle.script_back.proofs.Counters.{spaced-back, spaced-run, stats-back}
 use Rattle.script_back.proofs.Outcomes.{end-back, link-back, outcome-back, readiness-back, report-back, source-back}
+use Rattle.value_text.proofs.Back.{anchor-back, slot-back}
 use Rattle.head_anchor.specs.Ranges.{AnchorFits, OutcomeFits, SlotFits}
 use Rattle.hash.specs.Ranges.{Fits}
 use Rattle.head_ready.specs.Ranges.{ReadinessFits}
 use Rattle.head_current.specs.Ranges.{ReportFits}
 use Rattle.head_count.specs.Ranges.{StatsFit}
-use Rattle.script_back.specs.Reads.{got, map, then}
+use Rattle.value_text.specs.Reads.{got, map, then}
 use Rattle.script_answer.specs.Lines.{refusalOn}
 use Rattle.script_outcome.specs.Texts.{endText, linkText, outcomeText, readinessText, reportText, sourceText}
 use Rattle.script_value.specs.Texts.{spacedText, statsText}

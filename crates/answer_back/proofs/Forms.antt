@@ -6,8 +6,8 @@ use lib.ListN.{length}
 use Rattle.head_anchor.specs.Values.{Value}
 use Rattle.head_driver.specs.Answers.{said}
 use Rattle.script_answer.specs.Answers.{answerLine}
-use Rattle.script_back.specs.Reads.{then}
 use Rattle.script_answer.specs.Lines.{answerText, refusalOn, saidText}
+use Rattle.value_text.specs.Reads.{then}
 use Rattle.value_text.specs.Values.{valueText, valuesOn}
 use Rattle.value_text.specs.Words.{wordText}
 use Rattle.text.proofs.Back.{past-back, word-back}

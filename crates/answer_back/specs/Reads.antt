@@ -5,8 +5,9 @@ use lib.Dec.{eqb}
 use Rattle.hash.specs.Logic.{if}
 use Rattle.head_anchor.specs.Words.{Word}
 use Rattle.head_count.specs.Counters.{epochOf, seqOf}
+use Rattle.script_back.specs.Counters.{readStats}
 use Rattle.script_back.specs.Outcomes.{readEnd, readLink, readOutcome, readReadiness, readReport, readSource}
-use Rattle.script_back.specs.Reads.{got, map, readAnchor, readSlot, readStats, spacedNumber, then}
+use Rattle.value_text.specs.Reads.{got, map, readAnchor, readSlot, spacedNumber, then}
 use Rattle.value_text.specs.Words.{wordText}
 use Rattle.text.specs.Ascii.{ascii}
 use Rattle.text.specs.Rests.{Rest, Took, after, pastWord, stopped, wordHere}

@@ -2,7 +2,7 @@
 use mathlib.Core.List.{[]}
 use mathlib.Core.Path.{_≡_}
 use Rattle.script_answer.specs.Answers.{answerLine}
-use Rattle.script_back.specs.Reads.{got}
+use Rattle.value_text.specs.Reads.{got}
 use Rattle.text.specs.Rests.{at}
 use Rattle.head_driver.specs.declared.Answer.{Answer}
 use Rattle.answer_back.specs.Ranges.{AnswerFits}

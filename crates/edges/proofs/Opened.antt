@@ -48,6 +48,7 @@ use Rattle.hash_text.specs.Reads as HashReads
 use Rattle.hash_text.specs.SheetHashes
 use Rattle.script_call.specs.Values as CallValues
 use Rattle.script_call.specs.Calls as CallLines
+use Rattle.value_text.specs.Reads as ValueReads
 use Rattle.value_text.specs.Texts as ValueTexts
 use Rattle.value_text.specs.Values as ValueForms
 use Rattle.value_text.specs.Words as WordTexts
@@ -101,11 +102,11 @@ words = tt
 
 -- call lines
 unfoldable lines : Unit {0}
-unfolding CallValues.blockHashGot CallValues.readBlockHash CallValues.readAnchor CallValues.readSlot CallValues.spacedNumber CallValues.readFailure
-    CallValues.readSkip CallValues.spacedHash CallValues.spacedAnchor CallValues.spacedSlot CallValues.spacedSkip CallLines.ends CallLines.closed
-    CallLines.spacedTicket CallLines.spacedList CallLines.readDeliver CallLines.readClaim CallLines.readRelease CallLines.readApply CallLines.readSnapshot
-    CallLines.readWait CallLines.readResume CallLines.readCompletion CallLines.readLink CallLines.readReport CallLines.readStats CallLines.readHeads
-    CallLines.readSheet CallLines.laterNamed CallLines.callNamed CallLines.callHere CallLines.call
+unfolding ValueReads.orWord ValueReads.map ValueReads.then ValueReads.hashSaid ValueReads.blockHashGot ValueReads.readBlockHash ValueReads.readAnchor
+    ValueReads.readSlot ValueReads.spacedNumber ValueReads.readFailure ValueReads.readSkip CallValues.spacedHash CallValues.spacedAnchor CallValues.spacedSlot
+    CallValues.spacedSkip CallLines.ends CallLines.closed CallLines.spacedTicket CallLines.spacedList CallLines.readDeliver CallLines.readClaim
+    CallLines.readRelease CallLines.readApply CallLines.readSnapshot CallLines.readWait CallLines.readResume CallLines.readCompletion CallLines.readLink
+    CallLines.readReport CallLines.readStats CallLines.readHeads CallLines.readSheet CallLines.laterNamed CallLines.callNamed CallLines.callHere CallLines.call
 lines = tt
 
 -- answer lines

@@ -1,12 +1,15 @@
--- Links, skips, outcomes, reports, readiness, sources and ends are read back.
+-- Links, outcomes, reports, readiness, sources and ends are read back.
 use Prim.Native.Nat.{ℕ}
 use mathlib.Core.Bool.{false}
-use mathlib.Core.List.{List, _∷_, _++_, append-assoc}
-use mathlib.Core.Path.{_≡_, refl, ap, _∙_}
-use Rattle.head_anchor.specs.Values.{faultValue, linkValue, outcomeValue, skipValue}
+use mathlib.Core.List.{List, _++_, append-assoc}
+use mathlib.Core.Path.{_≡_, refl, _∙_}
+use Rattle.head_anchor.specs.Values.{faultValue, linkValue, outcomeValue}
 use Rattle.head_anchor.specs.Words.{Word}
 use Rattle.head_driver.specs.Answers.{endValue, readinessValue, reportValue, sourceValue}
 use Rattle.script_outcome.specs.Texts.{coldText, endText, faultText, linkText, outcomeText, readinessText, reportText, sourceText}
+use Rattle.value_text.proofs.Back.{skip-back}
+use Rattle.value_text.proofs.Keywords.{open-miss, word-hit, word-miss}
+use Rattle.value_text.specs.Reads.{got, map, then}
 use Rattle.value_text.specs.Texts.{skipText}
 use Rattle.script_value.specs.Texts.{spacedText}
 use Rattle.value_text.specs.Values.{valueText}
@@ -24,14 +27,12 @@ use Rattle.head_current.specs.declared.LastReport.{LastReport}
 use Rattle.head_ready.specs.declared.HeadCold.{HeadCold}
 use Rattle.head_ready.specs.declared.HeadReadiness.{HeadReadiness}
 use Rattle.head_ready.specs.declared.Source.{Source}
-use Rattle.script_back.specs.Outcomes.{readCold, readEnd, readFault, readFaulty, readLink, readMade, readNote, readOutcome, readReadiness, readReport, readSkip, readSource}
+use Rattle.script_back.specs.Outcomes.{readCold, readEnd, readFault, readFaulty, readLink, readMade, readOutcome, readReadiness, readReport, readSource}
 use Rattle.hash.specs.Ranges.{Fits}
 use Rattle.head_anchor.specs.Ranges.{OutcomeFits, SkipFits}
 use Rattle.head_ready.specs.Ranges.{ReadinessFits}
 use Rattle.head_current.specs.Ranges.{ReportFits}
-use Rattle.script_back.specs.Reads.{got, map, then}
-use Rattle.script_back.proofs.Anchors.{spaced-back, spaced-run}
-use Rattle.script_back.proofs.Keywords.{open-miss, word-hit, word-miss}
+use Rattle.script_back.proofs.Counters.{spaced-back, spaced-run}
 
 module _ (t : List ℕ) (z : run t ≡ 0) where
   -- ---- words
@@ -81,36 +82,6 @@ module _ (t : List ℕ) (z : run t ≡ 0) where
   end-back HeadCompletion.Settled = word-miss _ _ t z (ascii "none") (ascii "settled") refl refl ∙ word-hit _ _ t z (ascii "settled") refl
   end-back HeadCompletion.Superseded = word-miss _ _ t z (ascii "none") (ascii "superseded") refl refl ∙ word-miss _ _ t z (ascii "settled") (ascii "superseded") refl refl ∙ word-hit _ _ t z (ascii "superseded") refl
   end-back HeadCompletion.Abandoned = word-miss _ _ t z (ascii "none") (ascii "abandoned") refl refl ∙ word-miss _ _ t z (ascii "settled") (ascii "abandoned") refl refl ∙ word-miss _ _ t z (ascii "superseded") (ascii "abandoned") refl refl ∙ word-hit _ _ t z (ascii "abandoned") refl
-
-  -- ---- skips
-
-  module _ (n : ℕ) (f : Fits n) where
-    rpc-back : readNote (at (ascii "rpc" ++ (spacedText n ++ (ascii ")" ++ t)))) ≡ got (BalSkip.Rpc n) (at t)
-    unfolding readNote wordText sameText then map after step run inWord
-    rpc-back = simp (says-back (ascii "rpc") (spacedText n ++ (ascii ")" ++ t)) refl (spaced-run n (ascii ")" ++ t)), past-back (ascii "rpc") (spacedText n ++ (ascii ")" ++ t)) refl (spaced-run n (ascii ")" ++ t)), spaced-back)
-
-    decode-back : readNote (at (ascii "decode" ++ (spacedText n ++ (ascii ")" ++ t)))) ≡ got (BalSkip.Decode n) (at t)
-    unfolding readNote wordText sameText then map after step run inWord
-    decode-back = simp (says-back (ascii "decode") (spacedText n ++ (ascii ")" ++ t)) refl (spaced-run n (ascii ")" ++ t)), past-back (ascii "decode") (spacedText n ++ (ascii ")" ++ t)) refl (spaced-run n (ascii ")" ++ t)), spaced-back)
-
-  rpc-form : (n : ℕ) → skipText (BalSkip.Rpc n) ++ t ≡ ascii "(rpc" ++ (spacedText n ++ (ascii ")" ++ t))
-  unfolding skipText skipValue valueText wordText spacedText
-  rpc-form n = simp append-assoc
-
-  decode-form : (n : ℕ) → skipText (BalSkip.Decode n) ++ t ≡ ascii "(decode" ++ (spacedText n ++ (ascii ")" ++ t))
-  unfolding skipText skipValue valueText wordText spacedText
-  decode-form n = simp append-assoc
-
-  noted : (s : List ℕ) → readSkip (at (40 ∷ s)) ≡ readNote (at s)
-  unfolding readSkip wordText after step
-  noted s = open-miss _ _ _ _ s ∙ open-miss _ _ _ _ s
-
-  pub skip-back : (skip : BalSkip) → SkipFits skip → readSkip (at (skipText skip ++ t)) ≡ got skip (at t)
-  unfolding readSkip skipText skipValue valueText wordText sameText run inWord
-  skip-back BalSkip.Nothing f = word-hit _ _ t z (ascii "none") refl
-  skip-back BalSkip.NoHash f = word-miss _ _ t z (ascii "none") (ascii "no-hash") refl refl ∙ word-hit _ _ t z (ascii "no-hash") refl
-  skip-back (BalSkip.Rpc n) f = ap (λ (s : List ℕ). readSkip (at s)) (rpc-form n) ∙ noted _ ∙ rpc-back n f
-  skip-back (BalSkip.Decode n) f = ap (λ (s : List ℕ). readSkip (at s)) (decode-form n) ∙ noted _ ∙ decode-back n f
 
 module _ (link : Link) (skip : BalSkip) (t : List ℕ) where
   -- ---- `(cold LINK SKIP)`

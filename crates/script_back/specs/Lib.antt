@@ -1,3 +1,3 @@
--- What is read of a value's text: Reads, of anchors and counters; Outcomes, of what holds no hash.
-pub mod Reads
+-- What is read of a value's text: Counters, of counters; Outcomes, of the values that only an answer or a sheet has.
+pub mod Counters
 pub mod Outcomes

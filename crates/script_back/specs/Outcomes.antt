@@ -1,6 +1,7 @@
--- Reading links, skips, outcomes, reports, readiness, sources and ends from the front of a text, with a failure that stays.
+-- Reading links, outcomes, reports, readiness, sources and ends from the front of a text, with a failure that stays.
 use Rattle.hash.specs.Logic.{if}
 use Rattle.head_anchor.specs.Words.{Word}
+use Rattle.value_text.specs.Reads.{got, map, orWord, readSkip, spacedNumber, then}
 use Rattle.value_text.specs.Words.{wordText}
 use Rattle.text.specs.Ascii.{ascii}
 use Rattle.text.specs.Rests.{Rest, Took, after, pastWord, says, stopped}
@@ -12,9 +13,8 @@ use Rattle.head_current.specs.declared.LastReport.{LastReport}
 use Rattle.head_ready.specs.declared.HeadCold.{HeadCold}
 use Rattle.head_ready.specs.declared.HeadReadiness.{HeadReadiness}
 use Rattle.head_ready.specs.declared.Source.{Source}
-use Rattle.script_back.specs.Reads.{got, map, orWord, spacedNumber, then}
 
--- ---- links and skips
+-- ---- links
 
 -- what may be wrong with a link
 unfoldable pub readFaulty : Rest → Took Link
@@ -30,19 +30,6 @@ readLink r = orWord (wordText Word.linked) Link.Linked r (readFaulty r)
 
 unfoldable pub readFault : Rest → Took Link
 readFault r = orWord (wordText Word.none) Link.Linked r (readFaulty r)
-
--- `rpc N)` or `decode N)`
-unfoldable pub readNote : Rest → Took BalSkip
-readNote r =
-    if (says (wordText Word.rpc) r)
-    (then (ascii ")") (map BalSkip.Rpc (spacedNumber (pastWord r))))
-    (if (says (wordText Word.decode) r) (then (ascii ")") (map BalSkip.Decode (spacedNumber (pastWord r)))) (got BalSkip.Nothing stopped))
-
-unfoldable pub readSkip : Rest → Took BalSkip
-readSkip r =
-    orWord (wordText Word.none) BalSkip.Nothing r
-    (orWord (wordText Word.no-hash) BalSkip.NoHash r
-    (readNote (after (ascii "(") r)))
 
 -- ---- `(cold LINK SKIP)`
 

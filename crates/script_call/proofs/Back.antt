@@ -11,7 +11,8 @@ use Rattle.text.specs.Words.{inWord, run}
 use Rattle.text.specs.Same.{sameText}
 use Rattle.text.specs.Rests.{at, step, after, atEnd}
 use Rattle.text.proofs.Back.{word-back, past-back}
-use Rattle.script_call.proofs.ValuesBack.{spaced-number-back, spaced-hash-back, spaced-anchor-back, spaced-slot-back, spaced-skip-back}
+use Rattle.value_text.proofs.Back.{spaced-number-back}
+use Rattle.script_call.proofs.ValuesBack.{spaced-hash-back, spaced-anchor-back, spaced-slot-back, spaced-skip-back}
 use Rattle.script_call.specs.Calls.{ends, closed, spacedTicket, spacedList, readDeliver, readClaim, readRelease, readApply, readSnapshot, readWait, readResume, readCompletion, readLink, readReport, readStats, readHeads, readSheet, callNamed, laterNamed, callHere, call}
 use Rattle.script_call.specs.Texts.{callText, sheetCallText}
 use Rattle.head_call.specs.Ranges.{Writable}

@@ -14,7 +14,8 @@ use Rattle.text.specs.Places.{here, Reads}
 use Rattle.text.specs.declared.decimal.NumberFrom.{NumberFrom}
 use Rattle.text.specs.declared.place.Place.{Place}
 use Rattle.hash_text.specs.declared.HashFrom.{HashFrom}
-use Rattle.script_call.specs.Values.{spacedNumber, spacedHash, spacedAnchor, spacedSlot, spacedSkip}
+use Rattle.value_text.specs.Reads.{spacedNumber}
+use Rattle.script_call.specs.Values.{spacedHash, spacedAnchor, spacedSlot, spacedSkip}
 use Rattle.script_call.specs.declared.anchor.AnchorFrom.{AnchorFrom}
 use Rattle.script_call.specs.declared.anchor.SlotFrom.{SlotFrom}
 use Rattle.script_call.specs.declared.skip.SkipFrom.{SkipFrom}

@@ -19,13 +19,14 @@ use Rattle.hash_text.specs.LineHashes.{lineHashText, lineHash}
 use Rattle.hash_text.specs.Reads.{hashGot, readHash}
 use Rattle.hash_text.specs.declared.HashWord.{HashWord}
 use Rattle.hash_text.proofs.Only.{line-hash-only}
-use Rattle.script_call.specs.Values.{blockHashGot, readBlockHash, readAnchor, readSlot, spacedNumber, readFailure, readSkip, spacedHash, spacedAnchor, spacedSlot, spacedSkip}
+use Rattle.script_call.specs.Values.{spacedHash, spacedAnchor, spacedSlot, spacedSkip}
+use Rattle.value_text.specs.Reads.{orWord, map, then, hashSaid, blockHashGot, readBlockHash, readAnchor, readSlot, spacedNumber, readFailure, readSkip}
 use Rattle.value_text.specs.Texts.{blockHashText, anchorText, slotText, skipText}
 use Rattle.value_text.specs.Values.{hashText, valueText}
 use Rattle.value_text.specs.Words.{wordText}
 use Rattle.head_anchor.specs.Values.{anchorValue, blockHashValue, skipValue, slotValue}
 use Rattle.value_text.specs.declared.page.Page.{Page}
-use Rattle.script_call.proofs.ValuesBack.{went-on}
+use Rattle.value_text.proofs.Back.{went-on}
 
 -- ---- given texts
 
@@ -108,20 +109,20 @@ unfolding blockHashGot blockHashText valueText wordText hashText blockHashValue
 got-only r t (HashWord.Value h) f g = rw (line-hash-only (wordHere r) h f .0) at (past-only r t g)
 got-only r t HashWord.Bad f g = absurd (went-on t g)
 
-block-hash-read : (r : Rest) (t : List ℕ) → readBlockHash r .next ≡ at t → r ≡ at (blockHashText Page.Line (readBlockHash r .value) ++ t)
-unfolding readBlockHash blockHashText valueText wordText hashText blockHashValue
+block-hash-read : (r : Rest) (t : List ℕ) → readBlockHash Page.Line r .next ≡ at t → r ≡ at (blockHashText Page.Line (readBlockHash Page.Line r .value) ++ t)
+unfolding readBlockHash orWord hashSaid blockHashText valueText wordText hashText blockHashValue
 block-hash-read r t =
     chosen-only (blockHashText Page.Line) r t (says (ascii "none") r) _ _
     (λ f g. says-only (ascii "none") r t f g)
     (got-only r t (lineHash (wordHere r)) refl)
 
-anchor-read : (r : Rest) (t : List ℕ) → readAnchor r .next ≡ at t → r ≡ at (anchorText Page.Line (readAnchor r .value) ++ t)
+anchor-read : (r : Rest) (t : List ℕ) → readAnchor Page.Line r .next ≡ at t → r ≡ at (anchorText Page.Line (readAnchor Page.Line r .value) ++ t)
 unfolding readAnchor anchorText valueText anchorValue blockHashText
 anchor-read r t e =
     after-only (ascii "(") r _ (number-read _ _ (after-only (ascii " ") _ _ (block-hash-read _ _ (after-only (ascii ")") _ t e)))) ∙ simp append-assoc
 
-slot-read : (r : Rest) (t : List ℕ) → readSlot r .next ≡ at t → r ≡ at (slotText Page.Line (readSlot r .value) ++ t)
-unfolding readSlot slotText valueText wordText slotValue anchorText
+slot-read : (r : Rest) (t : List ℕ) → readSlot Page.Line r .next ≡ at t → r ≡ at (slotText Page.Line (readSlot Page.Line r .value) ++ t)
+unfolding readSlot orWord map slotText valueText wordText slotValue anchorText
 slot-read r t =
     chosen-only (slotText Page.Line) r t (says (ascii "none") r) _ _
     (λ f g. says-only (ascii "none") r t f g)
@@ -134,7 +135,7 @@ unfolding spacedNumber
 spaced-number-only r t e = after-only (ascii " ") r _ (number-read _ t e)
 
 failure-read : (r : Rest) (t : List ℕ) → readFailure (after (ascii "(") r) .next ≡ at t → r ≡ at (skipText (readFailure (after (ascii "(") r) .value) ++ t)
-unfolding readFailure skipText valueText wordText skipValue
+unfolding readFailure then map skipText valueText wordText skipValue
 failure-read r t =
     let s = after (ascii "(") r in
     chosen-only skipText r t (says (ascii "rpc") s) _ _
@@ -144,7 +145,7 @@ failure-read r t =
     (λ g. absurd (went-on t g)))
 
 skip-read : (r : Rest) (t : List ℕ) → readSkip r .next ≡ at t → r ≡ at (skipText (readSkip r .value) ++ t)
-unfolding readSkip skipText valueText wordText skipValue
+unfolding readSkip orWord skipText valueText wordText skipValue
 skip-read r t =
     chosen-only skipText r t (says (ascii "none") r) _ _
     (λ f g. says-only (ascii "none") r t f g)

@@ -18,7 +18,10 @@ use Rattle.hash_text.specs.LineHashes.{lineHash}
 use Rattle.hash_text.specs.Reads.{readHash}
 use Rattle.hash_text.specs.declared.HashFrom.{HashFrom}
 use Rattle.hash_text.specs.declared.HashWord.{HashWord}
-use Rattle.script_call.specs.Values.{blockHashGot, readBlockHash, readAnchor, readSlot, spacedNumber, readFailure, readSkip, spacedHash, spacedAnchor, spacedSlot, spacedSkip}
+use Rattle.value_text.specs.Reads.{orWord, map, then, hashSaid, blockHashGot, readBlockHash, readAnchor, readSlot, spacedNumber, readFailure, readSkip}
+use Rattle.value_text.specs.Words.{wordText}
+use Rattle.value_text.specs.declared.page.Page.{Page}
+use Rattle.script_call.specs.Values.{spacedHash, spacedAnchor, spacedSlot, spacedSkip}
 use Rattle.script_call.specs.declared.anchor.AnchorFrom.{AnchorFrom}
 use Rattle.script_call.specs.declared.anchor.BlockHashFrom.{BlockHashFrom}
 use Rattle.script_call.specs.declared.skip.SkipFrom.{SkipFrom}
@@ -34,58 +37,58 @@ module _ (l : List ℕ) (r : Rest) (i : Place) (e : here l i ≡ after (ascii " 
   unfolding spacedHash
   hash-spaced x h = rw (← e) h
 
-  pub anchor-spaced : (q₁ q₂ q₃ : Place) (n : NumberFrom) (b : BlockHashFrom) → here l q₁ ≡ after (ascii "(") (here l i) → Reads l (n .value) (n .next) (readNumber (here l q₁)) → here l q₂ ≡ after (ascii " ") (here l (n .next)) → Reads l (b .value) (b .next) (readBlockHash (here l q₂)) → here l q₃ ≡ after (ascii ")") (here l (b .next)) → Reads l (record { number = n .value; hash = b .value }) q₃ (spacedAnchor r)
+  pub anchor-spaced : (q₁ q₂ q₃ : Place) (n : NumberFrom) (b : BlockHashFrom) → here l q₁ ≡ after (ascii "(") (here l i) → Reads l (n .value) (n .next) (readNumber (here l q₁)) → here l q₂ ≡ after (ascii " ") (here l (n .next)) → Reads l (b .value) (b .next) (readBlockHash Page.Line (here l q₂)) → here l q₃ ≡ after (ascii ")") (here l (b .next)) → Reads l (record { number = n .value; hash = b .value }) q₃ (spacedAnchor r)
   unfolding spacedAnchor readAnchor
   anchor-spaced q₁ q₂ q₃ n b f g h k o = rw (← e, ← f, ← g .rest, ← h, ← k .rest, ← o, ← g .is, ← k .is) (record { is = refl; rest = refl })
 
   -- the word that follows the space
   module _ (w : List ℕ) (d : w ≡ wordHere (here l i)) where
     pub slot-none : (t : Bool) (q : Place) → t ≡ sameText w (ascii "none") → t ≡ true → here l q ≡ past (length w) (here l i) → Reads l AnchorSlot.Nothing q (spacedSlot r)
-    unfolding spacedSlot readSlot says pastWord
+    unfolding spacedSlot readSlot orWord wordText map says pastWord
     slot-none t q f g h = rw (← e, ← d, ← f, g, ← h) (record { is = refl; rest = refl })
 
     pub slot-anchor : (t : Bool) (a : AnchorFrom) → t ≡ sameText w (ascii "none") → t ≡ false → Reads l (a .value) (a .next) (spacedAnchor r) → Reads l (AnchorSlot.At (a .value)) (a .next) (spacedSlot r)
-    unfolding spacedAnchor spacedSlot readSlot says
+    unfolding spacedAnchor spacedSlot readSlot orWord wordText map says
     slot-anchor t a f g h = rw (← h .is, ← h .rest, ← e, ← d, ← f, g) (record { is = refl; rest = refl })
 
     pub skip-none : (t : Bool) (q : Place) → t ≡ sameText w (ascii "none") → t ≡ true → here l q ≡ past (length w) (here l i) → Reads l BalSkip.Nothing q (spacedSkip r)
-    unfolding spacedSkip readSkip says pastWord
+    unfolding spacedSkip readSkip orWord wordText says pastWord
     skip-none t q f g h = rw (← e, ← d, ← f, g, ← h) (record { is = refl; rest = refl })
 
     pub skip-no-hash : (t u : Bool) (q : Place) → t ≡ sameText w (ascii "none") → t ≡ false → u ≡ sameText w (ascii "no-hash") → u ≡ true → here l q ≡ past (length w) (here l i) → Reads l BalSkip.NoHash q (spacedSkip r)
-    unfolding spacedSkip readSkip says pastWord
+    unfolding spacedSkip readSkip orWord wordText says pastWord
     skip-no-hash t u q f g x y h = rw (← e, ← d, ← f, g, ← x, y, ← h) (record { is = refl; rest = refl })
 
     pub skip-failure : (t u : Bool) (q : Place) (s : SkipFrom) → t ≡ sameText w (ascii "none") → t ≡ false → u ≡ sameText w (ascii "no-hash") → u ≡ false → here l q ≡ after (ascii "(") (here l i) → Reads l (s .value) (s .next) (readFailure (here l q)) → Reads l (s .value) (s .next) (spacedSkip r)
-    unfolding spacedSkip readSkip says
+    unfolding spacedSkip readSkip orWord wordText says
     skip-failure t u q s f g x y h k = rw (← e, ← d, ← f, g, ← x, y, ← h) k
 
 -- ---- at a word: w is the word that the rest starts with
 
 module _ (l : List ℕ) (r : Rest) (w : List ℕ) (e : w ≡ wordHere r) where
   -- `take_block_hash`
-  pub block-hash-none : (t : Bool) (q : Place) → t ≡ sameText w (ascii "none") → t ≡ true → here l q ≡ past (length w) r → Reads l BlockHash.Unknown q (readBlockHash r)
-  unfolding readBlockHash says pastWord
+  pub block-hash-none : (t : Bool) (q : Place) → t ≡ sameText w (ascii "none") → t ≡ true → here l q ≡ past (length w) r → Reads l BlockHash.Unknown q (readBlockHash Page.Line r)
+  unfolding readBlockHash orWord wordText says pastWord
   block-hash-none t q f g h = rw (← e, ← f, g, ← h) (record { is = refl; rest = refl })
 
-  pub block-hash-known : (t : Bool) (m : HashWord) (x : Hash) (q : Place) → t ≡ sameText w (ascii "none") → t ≡ false → m ≡ lineHash w → m ≡ HashWord.Value x → here l q ≡ past (length w) r → Reads l (BlockHash.Known x) q (readBlockHash r)
-  unfolding readBlockHash blockHashGot says pastWord
+  pub block-hash-known : (t : Bool) (m : HashWord) (x : Hash) (q : Place) → t ≡ sameText w (ascii "none") → t ≡ false → m ≡ lineHash w → m ≡ HashWord.Value x → here l q ≡ past (length w) r → Reads l (BlockHash.Known x) q (readBlockHash Page.Line r)
+  unfolding readBlockHash orWord wordText hashSaid blockHashGot says pastWord
   block-hash-known t m x q f g p k h = rw (← e, ← f, g, ← p, k, ← h) (record { is = refl; rest = refl })
 
-  pub block-hash-bad : (t : Bool) (m : HashWord) → t ≡ sameText w (ascii "none") → t ≡ false → m ≡ lineHash w → m ≡ HashWord.Bad → Reads l BlockHash.Unknown Place.Stopped (readBlockHash r)
-  unfolding readBlockHash blockHashGot says here
+  pub block-hash-bad : (t : Bool) (m : HashWord) → t ≡ sameText w (ascii "none") → t ≡ false → m ≡ lineHash w → m ≡ HashWord.Bad → Reads l BlockHash.Unknown Place.Stopped (readBlockHash Page.Line r)
+  unfolding readBlockHash orWord wordText hashSaid blockHashGot says here
   block-hash-bad t m f g p k = rw (← e, ← f, g, ← p, k) (record { is = refl; rest = refl })
 
   -- `take_failure`
   module _ (q₁ q₂ : Place) (n : NumberFrom) (h : here l q₁ ≡ past (length w) r) (k : Reads l (n .value) (n .next) (spacedNumber (here l q₁))) (o : here l q₂ ≡ after (ascii ")") (here l (n .next))) where
     pub failure-rpc : (t : Bool) → t ≡ sameText w (ascii "rpc") → t ≡ true → Reads l (BalSkip.Rpc (n .value)) q₂ (readFailure r)
-    unfolding readFailure says pastWord
+    unfolding readFailure then map wordText says pastWord
     failure-rpc t f g = rw (← e, ← f, g, ← h, ← k .is, ← k .rest, ← o) (record { is = refl; rest = refl })
 
     pub failure-decode : (t u : Bool) → t ≡ sameText w (ascii "rpc") → t ≡ false → u ≡ sameText w (ascii "decode") → u ≡ true → Reads l (BalSkip.Decode (n .value)) q₂ (readFailure r)
-    unfolding readFailure says pastWord
+    unfolding readFailure then map wordText says pastWord
     failure-decode t u f g x y = rw (← e, ← f, g, ← x, y, ← h, ← k .is, ← k .rest, ← o) (record { is = refl; rest = refl })
 
   pub failure-none : (t u : Bool) → t ≡ sameText w (ascii "rpc") → t ≡ false → u ≡ sameText w (ascii "decode") → u ≡ false → Reads l BalSkip.Nothing Place.Stopped (readFailure r)
-  unfolding readFailure says here
+  unfolding readFailure then map wordText says here
   failure-none t u f g x y = rw (← e, ← f, g, ← x, y) (record { is = refl; rest = refl })

@@ -13,7 +13,10 @@ use Rattle.hash_text.specs.LineHashes.{lineHash}
 use Rattle.hash.specs.Ranges.{HashFits, Fits}
 use Rattle.hash_text.specs.declared.HashWord.{HashWord}
 use Rattle.hash_text.proofs.Only.{line-hash-only, hash-range}
-use Rattle.script_call.specs.Values.{blockHashGot, readBlockHash, readAnchor, readSlot, spacedNumber, readFailure, readSkip, spacedHash, spacedAnchor, spacedSlot, spacedSkip}
+use Rattle.value_text.specs.Reads.{orWord, map, then, hashSaid, blockHashGot, readBlockHash, readAnchor, readSlot, spacedNumber, readFailure, readSkip}
+use Rattle.value_text.specs.Words.{wordText}
+use Rattle.value_text.specs.declared.page.Page.{Page}
+use Rattle.script_call.specs.Values.{spacedHash, spacedAnchor, spacedSlot, spacedSkip}
 use Rattle.head_anchor.specs.Ranges.{BlockHashFits, AnchorFits, SlotFits, SkipFits}
 
 -- what holds of both sides of a choice holds of what is chosen
@@ -28,18 +31,18 @@ unfolding blockHashGot
 got-range (HashWord.Value h) r f = f h refl
 got-range HashWord.Bad r f = tt
 
-pub block-hash-range : (r : Rest) → BlockHashFits (readBlockHash r .value)
-unfolding readBlockHash
+pub block-hash-range : (r : Rest) → BlockHashFits (readBlockHash Page.Line r .value)
+unfolding readBlockHash orWord wordText hashSaid
 block-hash-range r =
     chosen (λ (k : Took BlockHash). BlockHashFits (k .value)) (says (ascii "none") r) _ _ tt
     (got-range (lineHash (wordHere r)) (pastWord r) (λ h e. line-hash-only (wordHere r) h e .1))
 
-pub anchor-range : (r : Rest) → AnchorFits (readAnchor r .value)
+pub anchor-range : (r : Rest) → AnchorFits (readAnchor Page.Line r .value)
 unfolding readAnchor
 anchor-range r = record { number = number-range _; hash = block-hash-range _ }
 
-pub slot-range : (r : Rest) → SlotFits (readSlot r .value)
-unfolding readSlot
+pub slot-range : (r : Rest) → SlotFits (readSlot Page.Line r .value)
+unfolding readSlot orWord wordText map
 slot-range r = chosen (λ (k : Took AnchorSlot). SlotFits (k .value)) (says (ascii "none") r) _ _ tt (anchor-range r)
 
 -- ---- skips
@@ -49,13 +52,13 @@ unfolding spacedNumber
 spaced-number-range r = number-range _
 
 failure-range : (r : Rest) → SkipFits (readFailure r .value)
-unfolding readFailure
+unfolding readFailure then map wordText
 failure-range r =
     let P : Took BalSkip → Type 0 = λ k. SkipFits (k .value) in
     chosen P (says (ascii "rpc") r) _ _ (spaced-number-range _) (chosen P (says (ascii "decode") r) _ _ (spaced-number-range _) tt)
 
 pub skip-range : (r : Rest) → SkipFits (readSkip r .value)
-unfolding readSkip
+unfolding readSkip orWord wordText
 skip-range r =
     let P : Took BalSkip → Type 0 = λ k. SkipFits (k .value) in
     chosen P (says (ascii "none") r) _ _ tt (chosen P (says (ascii "no-hash") r) _ _ tt (failure-range _))

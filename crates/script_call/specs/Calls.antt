@@ -11,7 +11,8 @@ use Rattle.head_call.specs.declared.Call.{Call}
 use Rattle.text.specs.Ascii.{ascii}
 use Rattle.text.specs.Same.{sameText}
 use Rattle.text.specs.Rests.{Rest, at, Took, after, wordHere, pastWord, atEnd}
-use Rattle.script_call.specs.Values.{spacedNumber, spacedHash, spacedAnchor, spacedSlot, spacedSkip}
+use Rattle.value_text.specs.Reads.{spacedNumber}
+use Rattle.script_call.specs.Values.{spacedHash, spacedAnchor, spacedSlot, spacedSkip}
 use Rattle.script_call.specs.declared.LineCall.{LineCall}
 
 -- `)` is all that is left of the line

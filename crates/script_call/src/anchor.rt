@@ -1,6 +1,8 @@
 // Anchors on a line, each after one space.
-ghost use Rattle.script_call.specs.Values.{readBlockHash, spacedAnchor, spacedSlot};
+ghost use Rattle.script_call.specs.Values.{spacedAnchor, spacedSlot};
 ghost use Rattle.text.specs.Places.{here, Reads};
+ghost use Rattle.value_text.specs.Reads.{readBlockHash};
+ghost use Rattle.value_text.specs.declared.page.Page.{Page};
 use crate::spaced::is_none;
 use crate::spaced::past_byte;
 use hash_text::HashWord;
@@ -31,7 +33,7 @@ pub struct SlotFrom {
 
 // HASH or `none`. The word is looked for once: it is a keyword or a hash.
 pub(crate) fn take_block_hash(line: &[u8], from: Place) -> BlockHashFrom
-    ensures { λ r. ⌜ Reads (now (line .entry)) (r .value) (r .next) (readBlockHash (here (now (line .entry)) from)) ⌝ }
+    ensures { λ r. ⌜ Reads (now (line .entry)) (r .value) (r .next) (readBlockHash Page.Line (here (now (line .entry)) from)) ⌝ }
 {
     let word = word_from(line, from);
     let next = past(line, from, word.len());

@@ -1,6 +1,7 @@
 // Skips on a line.
-ghost use Rattle.script_call.specs.Values.{readFailure, spacedSkip};
+ghost use Rattle.script_call.specs.Values.{spacedSkip};
 ghost use Rattle.text.specs.Places.{here, Reads};
+ghost use Rattle.value_text.specs.Reads.{readFailure};
 use crate::spaced::is_none;
 use crate::spaced::past_byte;
 use crate::spaced::spaced_number;

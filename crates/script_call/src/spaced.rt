@@ -1,11 +1,12 @@
 // What parts the values of a call, the word for no value, and numbers and hashes, each after one space.
 ghost use mathlib.Core.List.{[], _∷_};
 ghost use mathlib.Core.Path.{_≡_};
-ghost use Rattle.script_call.specs.Values.{spacedNumber, spacedHash};
+ghost use Rattle.script_call.specs.Values.{spacedHash};
 ghost use Rattle.text.specs.Ascii.{ascii};
 ghost use Rattle.text.specs.Places.{here, Reads};
 ghost use Rattle.text.specs.Rests.{after};
 ghost use Rattle.text.specs.Same.{sameText};
+ghost use Rattle.value_text.specs.Reads.{spacedNumber};
 use hash_text::HashFrom;
 use hash_text::take_hash;
 use text::decimal::NumberFrom;

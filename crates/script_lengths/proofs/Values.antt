@@ -7,7 +7,7 @@ use lib.ListN.{length, length-append}
 use Rattle.hash_text.proofs.Back.{length-line-hash, length-sheet-hash}
 use Rattle.head_anchor.specs.Values.{blockHashValue, faultValue, linkValue, outcomeValue, skipValue, slotValue}
 use Rattle.head_driver.specs.Answers.{endValue, readinessValue, reportValue, sourceValue}
-use Rattle.script_back.proofs.Anchors.{anchor-form}
+use Rattle.value_text.proofs.Back.{anchor-form}
 use Rattle.script_outcome.specs.Texts.{coldText, endText, faultText, linkText, outcomeText, readinessText, reportText, sourceText}
 use Rattle.value_text.specs.Texts.{skipText, anchorText, blockHashText, slotText}
 use Rattle.script_value.proofs.Halves.{stats-split}

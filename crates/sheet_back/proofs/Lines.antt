@@ -9,16 +9,19 @@ use Rattle.alike.specs.Canon.{shownHead}
 use Rattle.alike.specs.Invariant.{OpenOrAbandoned, WhenUnclaimed}
 use Rattle.head_count.specs.Counters.{seqOf}
 use Rattle.head_deliver.specs.Delivered.{deliveryOf}
-use Rattle.script_back.proofs.Anchors.{anchor-back, anchor-form, hash-on-back, slot-back, spaced-back, spaced-run, stats-back}
-use Rattle.script_back.proofs.Keywords.{open-miss, word-hit, word-miss}
+use Rattle.hash_text.proofs.Back.{sheet-hash-back}
+use Rattle.value_text.proofs.Back.{anchor-back, anchor-form, slot-back}
+use Rattle.value_text.proofs.Keywords.{open-miss, word-hit, word-miss}
+use Rattle.script_back.proofs.Counters.{spaced-back, spaced-run, stats-back}
 use Rattle.script_back.proofs.Outcomes.{readiness-back, report-back}
 use Rattle.head_anchor.specs.Ranges.{SlotFits}
 use Rattle.hash.specs.Ranges.{Fits}
 use Rattle.head_count.specs.Ranges.{StatsFit}
-use Rattle.script_back.specs.Reads.{got, then}
+use Rattle.value_text.specs.Reads.{got, then}
 use Rattle.script_outcome.specs.Texts.{readinessText, reportText}
 use Rattle.script_value.specs.Texts.{spacedText, statsText}
 use Rattle.value_text.specs.Texts.{anchorText}
+use Rattle.value_text.specs.Values.{hashText}
 use Rattle.value_text.specs.Words.{wordText}
 use Rattle.sheet_lines.specs.Lines.{countLine, currentLine, deliveryText, generationText, installedLine, unclaimedEndText, previousLine, supersededLine, unsettledText}
 use Rattle.text.proofs.Back.{past-back, word-back}
@@ -52,11 +55,11 @@ count-back s e t f g = rw (count-form s e t) (simp (stats-back, spaced-run, spac
 -- ---- current
 
 delivery-back : (n : ℕ) (held : HeadDelivery) (t : List ℕ) → DeliveryFits held → run t ≡ 0 → readDelivery n (at (deliveryText held ++ t)) ≡ got (deliveryOf (held .anchor) (held .«parent_hash») (seqOf n)) (at t)
-unfolding readDelivery deliveryText after step
+unfolding readDelivery deliveryText hashText after step
 delivery-back n held t f z =
     let fa = f .anchor in
     let fh = f .parent-hash in
-    simp (append-assoc, anchor-back, hash-on-back)
+    simp (append-assoc, anchor-back, sheet-hash-back)
 
 unclaimed-end-back : (end : HeadCompletion) (t : List ℕ) → OpenOrAbandoned end → run t ≡ 0 → readUnclaimedEnd (at (unclaimedEndText end ++ t)) ≡ got end (at t)
 unfolding readUnclaimedEnd unclaimedEndText sameText run inWord

@@ -8,9 +8,9 @@ use lib.ListN.{length}
 use borrow.Author.Tests.{eq-eqb, ne-eqb}
 use Rattle.head_anchor.specs.Ranges.{AnchorFits}
 use Rattle.alike.specs.Ranges as A
-use Rattle.script_back.proofs.Anchors.{anchor-back}
+use Rattle.value_text.proofs.Back.{anchor-back}
 use Rattle.hash.specs.Ranges.{Fits}
-use Rattle.script_back.specs.Reads.{got, map, then}
+use Rattle.value_text.specs.Reads.{got, map, then}
 use Rattle.value_text.specs.Texts.{anchorText}
 use Rattle.sheet_lines.specs.Lines.{waiterLine, waiterLines}
 use Rattle.text.proofs.Back.{number-back, past-back, word-back}

@@ -6,8 +6,10 @@ use Rattle.head_anchor.specs.Words.{Word}
 use Rattle.head_attempt.specs.Attempts.{minted, settled}
 use Rattle.head_count.specs.Counters.{epochOf, seqOf}
 use Rattle.head_deliver.specs.Delivered.{deliveryOf}
+use Rattle.hash_text.specs.Reads.{readSheetHash}
+use Rattle.script_back.specs.Counters.{readStats}
 use Rattle.script_back.specs.Outcomes.{readReadiness, readReport}
-use Rattle.script_back.specs.Reads.{got, orWord, readAnchor, readHashOn, readSlot, readStats, spacedNumber, then}
+use Rattle.value_text.specs.Reads.{got, orWord, readAnchor, readSlot, spacedNumber, then}
 use Rattle.value_text.specs.Words.{wordText}
 use Rattle.text.specs.Ascii.{ascii}
 use Rattle.text.specs.Rests.{Rest, Took, after, pastWord, stopped, wordHere}
@@ -39,7 +41,7 @@ readCount r =
 unfoldable pub readDelivery : ℕ → Rest → Took HeadDelivery
 readDelivery delivered r =
     let anchor = readAnchor Page.Sheet r in
-    let parent = readHashOn Page.Sheet (after (ascii " ") (anchor .next)) in
+    let parent = readSheetHash (after (ascii " ") (anchor .next)) in
     got (deliveryOf (anchor .value) (parent .value) (seqOf delivered)) (parent .next)
 
 unfoldable pub readUnclaimedEnd : Rest → Took HeadCompletion

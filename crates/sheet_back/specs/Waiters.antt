@@ -5,7 +5,7 @@ use mathlib.Core.List.{List, [], _∷_}
 use lib.Dec.{eqb}
 use Rattle.hash.specs.Logic.{if}
 use Rattle.head_attempt.specs.Waiters.{slotOf}
-use Rattle.script_back.specs.Reads.{got, map, readAnchor, then}
+use Rattle.value_text.specs.Reads.{got, map, readAnchor, then}
 use Rattle.text.specs.Ascii.{ascii}
 use Rattle.text.specs.Rests.{Rest, Took, after, at, pastWord, readNumber, stopped, wordHere}
 use Rattle.text.specs.Same.{sameText}

@@ -1,2 +1,4 @@
--- Values in a row.
+-- For users: Rows, values in a row; Back, anchors and skips are read back, whatever follows that parts them from the next word; Keywords, the steps of it.
 pub mod Rows
+pub mod Keywords
+pub mod Back

@@ -9,7 +9,7 @@ use Rattle.text.proofs.Same.{same-refl}
 use Rattle.text.specs.Rests.{Took, at, says, wordHere}
 use Rattle.text.specs.Same.{sameText}
 use Rattle.text.specs.Words.{inWord, run, word}
-use Rattle.script_back.specs.Reads.{got, orWord}
+use Rattle.value_text.specs.Reads.{got, orWord}
 
 module _ {A : Type 0} (x : A) (o : Took A) (t : List ℕ) (z : run t ≡ 0) where
   pub word-hit : (k : List ℕ) → run k ≡ length k → orWord k x (at (k ++ t)) o ≡ got x (at t)
