@@ -1,3 +1,3 @@
--- What is read of a value's text: Counters, of counters; Outcomes, of the values that only an answer or a sheet has.
+-- What is read of the text of a value that no call has: Counters and Outcomes.
 pub mod Counters
 pub mod Outcomes

@@ -1,5 +1,4 @@
--- Document 01, "Lines": the text of a value. Words and Values are the paper's; Texts names the text of each value; Reads is what a text of an anchor or of a skip
--- says.
+-- Document 01, "Lines": the text of a value, and how an anchor and a skip are read. Words, Values and Reads are the paper's; Texts names the text of each value.
 pub mod Words
 pub mod Values
 pub mod Texts

@@ -39,7 +39,7 @@ unfoldable pub hashSaid : Page → List ℕ → HashWord
 hashSaid Page.Line w = lineHash w
 hashSaid Page.Sheet w = sheetHash w
 
--- the hash that a word says, and the rest after the word
+-- that hash, and the rest after the word
 unfoldable pub blockHashGot : HashWord → Rest → Took BlockHash
 blockHashGot (HashWord.Value h) next = got (BlockHash.Known h) next
 blockHashGot HashWord.Bad next = got BlockHash.Unknown stopped
