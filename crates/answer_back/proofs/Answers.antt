@@ -13,7 +13,7 @@ use Rattle.head_ready.specs.Ranges.{ReadinessFits}
 use Rattle.head_current.specs.Ranges.{ReportFits}
 use Rattle.head_count.specs.Ranges.{StatsFit}
 use Rattle.value_text.specs.Reads.{got, map, then}
-use Rattle.script_answer.specs.Lines.{refusalOn}
+use Rattle.script_value.specs.Lines.{refusalOn}
 use Rattle.script_outcome.specs.Texts.{endText, linkText, outcomeText, readinessText, reportText, sourceText}
 use Rattle.script_value.specs.Texts.{spacedText, statsText}
 use Rattle.value_text.specs.Texts.{anchorText, slotText}

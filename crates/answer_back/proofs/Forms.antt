@@ -6,7 +6,7 @@ use lib.ListN.{length}
 use Rattle.head_anchor.specs.Values.{Value}
 use Rattle.head_driver.specs.Answers.{said}
 use Rattle.script_answer.specs.Answers.{answerLine}
-use Rattle.script_answer.specs.Lines.{answerText, refusalOn, saidText}
+use Rattle.script_value.specs.Lines.{answerText, refusalOn, saidText}
 use Rattle.value_text.specs.Reads.{then}
 use Rattle.value_text.specs.Values.{valueText, valuesOn}
 use Rattle.value_text.specs.Words.{wordText}

@@ -54,7 +54,7 @@ use Rattle.value_text.specs.Values as ValueForms
 use Rattle.value_text.specs.Words as WordTexts
 use Rattle.script_value.specs.Texts as CounterTexts
 use Rattle.script_outcome.specs.Texts as OutcomeTexts
-use Rattle.script_answer.specs.Lines as AnswerTexts
+use Rattle.script_value.specs.Lines as AnswerTexts
 use Rattle.script_answer.specs.Answers as AnswerLines
 use Rattle.alike.specs.Canon
 use Rattle.sheet_lines.specs.Lines as SheetLines

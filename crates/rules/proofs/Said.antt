@@ -7,7 +7,7 @@ use lib.ListN.{getD}
 use Rattle.answer_back.proofs.Forms.{line-form}
 use Rattle.script_answer.specs.Answers.{lineText}
 use Rattle.head_driver.specs.Answers.{outcomeSaid, said}
-use Rattle.script_answer.specs.Lines.{refusalOn}
+use Rattle.script_value.specs.Lines.{refusalOn}
 use Rattle.value_text.specs.Texts.{anchorText}
 use Rattle.value_text.specs.Values.{valuesOn}
 use Rattle.value_text.specs.Words.{wordText}

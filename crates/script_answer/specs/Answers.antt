@@ -1,7 +1,7 @@
 -- Document 01, "Calls and answers", "Turned away by the input": an answer's line as it stands in the caller's buffer.
 use Prim.Native.Nat.{ℕ}
 use mathlib.Core.List.{List, [], _++_}
-use Rattle.script_answer.specs.Lines.{answerText}
+use Rattle.script_value.specs.Lines.{answerText}
 use Rattle.text.specs.Ascii.{ascii}
 use Rattle.head_driver.specs.declared.Answer.{Answer}
 use Rattle.script_answer.specs.declared.LineAnswer.{LineAnswer}

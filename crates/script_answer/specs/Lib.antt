@@ -1,4 +1,2 @@
--- Document 01, "Calls and answers": the line of an answer, without and with its line feed. Lines and Answers are the paper's; Parts is what the code goes through.
-pub mod Lines
+-- Document 01, "Calls and answers": the line of an answer with its line feed. All of it is the paper's.
 pub mod Answers
-pub mod Parts

@@ -2,7 +2,7 @@
 ghost use Prim.Native.Nat.{_+_, _≤_};
 ghost use mathlib.Core.List.{_++_};
 ghost use lib.ListN.{length};
-ghost use Rattle.script_answer.specs.Lines.{answerText};
+ghost use Rattle.script_value.specs.Lines.{answerText};
 ghost use Rattle.text.specs.Ascii.{ascii};
 ghost use Rattle.text.specs.Decimals.{decimal};
 ghost use Rattle.text.specs.Writes.{Wrote};

@@ -6,7 +6,7 @@ use mathlib.Core.Path.{_≡_, refl}
 use lib.ListN.{length, length-append}
 use Rattle.head_driver.specs.Answers.{outcomeSaid, said}
 use Rattle.script_answer.specs.Answers.{answerLine}
-use Rattle.script_answer.specs.Lines.{answerText, refusalOn, saidText}
+use Rattle.script_value.specs.Lines.{answerText, refusalOn, saidText}
 use Rattle.script_outcome.specs.Texts.{endText, linkText, outcomeText, readinessText, reportText, sourceText}
 use Rattle.value_text.proofs.Rows.{values-then}
 use Rattle.script_value.specs.Texts.{spacedText, statsText}

@@ -8,7 +8,7 @@ use denote.Enum.Declared.{tagOf}
 use borrow.Author.Needs.{needs}
 use Rattle.head_driver.proofs.Answer as T
 use Rattle.head_driver.specs.declared.Answer.{Answer}
-use Rattle.script_answer.specs.Parts.{isRead}
+use Rattle.script_reads.specs.Parts.{isRead}
 use Rattle.script_answer.proofs.put_text.Statement.{statement}
 use Rattle.script_answer.proofs.put_text.Tie as tie
 

@@ -6,7 +6,7 @@ use Rattle.script_outcome.specs.Texts.{readinessText, sourceText}
 use Rattle.value_text.specs.Values.{valueText, valuesOn}
 use Rattle.value_text.specs.Words.{wordText}
 use Rattle.text.proofs.Writes.{then, wrote-as}
-use Rattle.script_answer.specs.Lines.{answerText, refusalOn, saidText}
+use Rattle.script_value.specs.Lines.{answerText, refusalOn, saidText}
 use Rattle.script_answer.proofs.lines.put_view.Statement.{statement}
 use Rattle.script_answer.proofs.lines.put_view.Tie as tie
 

@@ -4,7 +4,7 @@ use Rattle.head_driver.specs.Answers.{outcomeSaid, said}
 use Rattle.value_text.specs.Values.{valueText, valuesOn}
 use Rattle.value_text.specs.Words.{wordText}
 use Rattle.text.specs.Decimals.{decimal, decimalOn}
-use Rattle.script_answer.specs.Lines.{answerText, refusalOn, saidText}
+use Rattle.script_value.specs.Lines.{answerText, refusalOn, saidText}
 use Rattle.script_answer.proofs.refusals.put_head_outcome.Statement.{statement}
 use Rattle.script_answer.proofs.refusals.put_head_outcome.Tie as tie
 

@@ -5,9 +5,9 @@ use Rattle.script_outcome.specs.Texts.{linkText}
 use Rattle.value_text.specs.Values.{valuesOn}
 use Rattle.value_text.specs.Words.{wordText}
 use Rattle.text.proofs.Writes.{then}
-use Rattle.script_answer.specs.Lines.{answerText, refusalOn, saidText}
-use Rattle.script_answer.proofs.lines.put_link.Statement.{statement}
-use Rattle.script_answer.proofs.lines.put_link.Tie as tie
+use Rattle.script_value.specs.Lines.{answerText, refusalOn, saidText}
+use Rattle.script_reads.proofs.lines.put_link.Statement.{statement}
+use Rattle.script_reads.proofs.lines.put_link.Tie as tie
 
 returns : tie.Need-returns
 unfolding answerText saidText said refusalOn valuesOn wordText linkText

@@ -1,9 +1,9 @@
 use native.Mathlib.Omega.{arith}
 use borrow.Author.Needs.{needs}
 use Rattle.text.proofs.Writes.{then, wrote-as}
-use Rattle.script_answer.proofs.Statistics.{stats-line}
-use Rattle.script_answer.proofs.lines.put_stats_line.Statement.{statement}
-use Rattle.script_answer.proofs.lines.put_stats_line.Tie as tie
+use Rattle.script_reads.proofs.Statistics.{stats-line}
+use Rattle.script_reads.proofs.lines.put_stats_line.Statement.{statement}
+use Rattle.script_reads.proofs.lines.put_stats_line.Tie as tie
 
 returns : tie.Need-returns
 returns c =

@@ -3,9 +3,9 @@ use borrow.Author.Needs.{needs}
 use Rattle.head_driver.specs.Answers.{endValue, said}
 use Rattle.value_text.specs.Values.{valueText, valuesOn}
 use Rattle.value_text.specs.Words.{wordText}
-use Rattle.script_answer.specs.Lines.{answerText, refusalOn, saidText}
-use Rattle.script_answer.proofs.lines.put_completion.Statement.{statement}
-use Rattle.script_answer.proofs.lines.put_completion.Tie as tie
+use Rattle.script_value.specs.Lines.{answerText, refusalOn, saidText}
+use Rattle.script_reads.proofs.lines.put_completion.Statement.{statement}
+use Rattle.script_reads.proofs.lines.put_completion.Tie as tie
 
 returns : tie.Need-returns
 unfolding answerText saidText said endValue refusalOn valuesOn valueText wordText

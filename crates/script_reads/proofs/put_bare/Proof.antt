@@ -14,9 +14,9 @@ use Rattle.text.specs.Ascii.{ascii}
 use Rattle.text.specs.Decimals.{decimal, decimalOn}
 use Rattle.value_text.specs.Values.{valuesOn}
 use Rattle.value_text.specs.Words.{wordText}
-use Rattle.script_answer.specs.Lines.{answerText, refusalOn, saidText}
-use Rattle.script_answer.proofs.put_bare.Statement.{statement}
-use Rattle.script_answer.proofs.put_bare.Tie as tie
+use Rattle.script_value.specs.Lines.{answerText, refusalOn, saidText}
+use Rattle.script_reads.proofs.put_bare.Statement.{statement}
+use Rattle.script_reads.proofs.put_bare.Tie as tie
 
 -- the places of the answers that are not `(done)` or `(parked)`
 abbrev others : List ℕ
@@ -58,9 +58,9 @@ returns-2 c = (rw (c .before .before .before .before .before .enum-told2 .given 
 returns-3 : tie.Need-returns-3
 returns-3 c =
     let c1 = c .before .before .before in
-    (wrote-as (c .before .before .put-refused .ensures .0) (rw (c1 .number .ensures) (refused-bare _ (c1 .before .before .before .before .pre .1) (c1 .before .before .match .keys3))), omega arith)
+    (wrote-as (c .before .before .put-named .ensures .0) (rw (c1 .number .ensures) (refused-bare _ (c1 .before .before .before .before .before .pre .1) (c1 .before .before .before .match .keys3))), omega arith)
 
 pub put-bare-spec : {M : Type 1} → statement M
 put-bare-spec = tie.close (tie.spec
     (λ c. c .match .keys1) (search needs) (search needs) (λ c. c .match .keys2) (search needs) (search needs)
-    (λ c κs. tt) (search needs) (search needs) returns (search needs) returns-2 (search needs) returns-3)
+    (search needs) (λ c κs. tt) (search needs) (search needs) returns (search needs) returns-2 (search needs) returns-3)

@@ -5,9 +5,9 @@ use Rattle.value_text.specs.Texts.{slotText}
 use Rattle.value_text.specs.Values.{valueText, valuesOn}
 use Rattle.value_text.specs.Words.{wordText}
 use Rattle.text.proofs.Writes.{then}
-use Rattle.script_answer.specs.Lines.{answerText, refusalOn, saidText}
-use Rattle.script_answer.proofs.lines.put_heads.Statement.{statement}
-use Rattle.script_answer.proofs.lines.put_heads.Tie as tie
+use Rattle.script_value.specs.Lines.{answerText, refusalOn, saidText}
+use Rattle.script_reads.proofs.lines.put_heads.Statement.{statement}
+use Rattle.script_reads.proofs.lines.put_heads.Tie as tie
 
 returns : tie.Need-returns
 unfolding answerText saidText said refusalOn valuesOn valueText wordText slotText

@@ -8,7 +8,7 @@ use Rattle.value_text.specs.Words.{wordText}
 use Rattle.text.specs.Ascii.{ascii}
 use Rattle.head_count.specs.declared.HeadStats.{HeadStats}
 use Rattle.head_driver.specs.declared.Answer.{Answer}
-use Rattle.script_answer.specs.Lines.{answerText, refusalOn, saidText}
+use Rattle.script_value.specs.Lines.{answerText, refusalOn, saidText}
 
 pub stats-line : (s : HeadStats) → ascii "(stats" ++ (statsText s ++ ascii ")") ≡ answerText (Answer.Stats s)
 unfolding answerText saidText said refusalOn wordText statsText

@@ -9,9 +9,9 @@ use borrow.Author.Needs.{needs}
 use Rattle.head_driver.proofs.Answer as T
 use Rattle.head_driver.specs.Answers.{said}
 use Rattle.head_driver.specs.declared.Answer.{Answer}
-use Rattle.script_answer.specs.Parts.{isRead}
-use Rattle.script_answer.proofs.put_read.Statement.{statement}
-use Rattle.script_answer.proofs.put_read.Tie as tie
+use Rattle.script_reads.specs.Parts.{isRead}
+use Rattle.script_reads.proofs.put_read.Statement.{statement}
+use Rattle.script_reads.proofs.put_read.Tie as tie
 
 -- the places of the answers that have no case of their own
 abbrev others : List ℕ

@@ -1,0 +1,2 @@
+-- What the code goes through.
+pub mod Parts
