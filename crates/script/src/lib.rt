@@ -34,7 +34,7 @@ pub(crate) fn usable(pending: usize, held: usize, out: usize) -> bool
 }
 
 // Answers what is held as a line; nothing of the next line is held.
-pub(crate) fn answer_held(fed: Fed, pending: &[u8], out: &mut [u8]) -> Fed
+pub(crate) fn answer_held(mut fed: Fed, pending: &[u8], out: &mut [u8]) -> Fed
     requires { ⌜ fed .held ≤ length (now pending) ⌝ }
     requires { ⌜ fed .written + 4096 ≤ length (now out) ⌝ }
     ensures { λ r. ⌜ AnswersHeld fed (now (pending .entry)) (now (out .entry)) (now (out .exit)) r ⌝ }
@@ -43,12 +43,10 @@ pub(crate) fn answer_held(fed: Fed, pending: &[u8], out: &mut [u8]) -> Fed
     let at = fed.written;
     let printed = print_line(fed.driver, &pending[..held], &mut out[at..]);
     let driver = printed.driver;
-    Fed {
-        driver,
-        held: 0,
-        taken: fed.taken,
-        written: at + printed.written,
-    }
+    fed.driver = driver;
+    fed.held = 0;
+    fed.written = at + printed.written;
+    fed
 }
 
 // Takes the next bytes of an input, as many as there is room for the answers of, and writes these at the front of `out`. The caller

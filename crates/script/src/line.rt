@@ -28,9 +28,8 @@ pub(crate) fn put_answer(out: &mut [u8], answer: LineAnswer) -> usize
 {
     match answer {
         LineAnswer::Said(said) => return bytes_written(put_line(out, LineAnswer::Said(said))),
-        LineAnswer::NoCall => return bytes_written(put_line(out, LineAnswer::NoCall)),
-        LineAnswer::SheetTooShort => return bytes_written(put_line(out, LineAnswer::SheetTooShort)),
         LineAnswer::Sheet(n) => return n,
+        _ => return bytes_written(put_line(out, answer)),
     }
 }
 
