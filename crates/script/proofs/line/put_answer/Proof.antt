@@ -39,4 +39,4 @@ put-answer-spec = tie.close (tie.spec
     (λ c κs. tt)
     (λ c. search needs)
     (λ c. let told = c .before .before .before .before .before in
-        puts-line _ _ _ _ _ _ (line-counted _ (told .match .keys3)) refl (told .before .before .pre) (c .before .before .before .put-line2 .ensures) (c .bytes-written2 .ensures)))
+    puts-line _ _ _ _ _ _ (line-counted _ (told .match .keys3)) refl (told .before .before .pre) (c .before .before .before .put-line2 .ensures) (c .bytes-written2 .ensures)))
