@@ -3,19 +3,19 @@ use mathlib.Core.Bool.{Bool, false, true}
 use Rattle.head_driver.specs.declared.Answer.{Answer}
 
 -- that of a call which only reads, or one without values
-unfoldable pub isRead : Answer → Bool
-isRead (Answer.Ticket n) = false
-isRead (Answer.Claimed e) = false
-isRead Answer.Done = true
-isRead (Answer.Outcome o) = false
-isRead (Answer.View v) = false
-isRead Answer.Parked = true
-isRead (Answer.Completion e) = true
-isRead (Answer.Link l) = true
-isRead (Answer.Report r) = true
-isRead (Answer.Stats s) = true
-isRead (Answer.Heads c i p) = true
-isRead Answer.ListAtOdds = true
-isRead Answer.WaiterOutOfRange = true
-isRead Answer.WaiterTaken = true
-isRead Answer.WaiterFree = true
+unfoldable pub readOrBare : Answer → Bool
+readOrBare (Answer.Ticket n) = false
+readOrBare (Answer.Claimed e) = false
+readOrBare Answer.Done = true
+readOrBare (Answer.Outcome o) = false
+readOrBare (Answer.View v) = false
+readOrBare Answer.Parked = true
+readOrBare (Answer.Completion e) = true
+readOrBare (Answer.Link l) = true
+readOrBare (Answer.Report r) = true
+readOrBare (Answer.Stats s) = true
+readOrBare (Answer.Heads c i p) = true
+readOrBare Answer.ListAtOdds = true
+readOrBare Answer.WaiterOutOfRange = true
+readOrBare Answer.WaiterTaken = true
+readOrBare Answer.WaiterFree = true

@@ -6,7 +6,7 @@ ghost use mathlib.Core.List.{[]};
 ghost use mathlib.Core.Path.{_≡_};
 ghost use lib.ListN.{length};
 ghost use Rattle.head_driver.specs.Answers.{said};
-ghost use Rattle.script_reads.specs.Parts.{isRead};
+ghost use Rattle.script_reads.specs.Parts.{readOrBare};
 ghost use Rattle.script_value.specs.Lines.{answerText};
 ghost use Rattle.text.specs.Writes.{Wrote};
 use crate::lines::put_completion;
@@ -37,7 +37,7 @@ pub(crate) fn put_bare(buf: &mut [u8], at: usize, answer: Answer) -> usize
 // The answers of the calls that only read, and those without values.
 pub fn put_read(buf: &mut [u8], at: usize, answer: Answer) -> usize
     requires { ⌜ at + 511 ≤ length (now buf) ⌝ }
-    requires { ⌜ isRead answer ≡ true ⌝ }
+    requires { ⌜ readOrBare answer ≡ true ⌝ }
     ensures { λ r. ⌜ Wrote (now (buf .entry)) (now (buf .exit)) at r (answerText answer) ⌝ }
     ensures { λ r. ⌜ r ≤ at + 511 ⌝ }
 {

@@ -8,7 +8,7 @@ use denote.Enum.Declared.{tagOf}
 use borrow.Author.Needs.{needs}
 use Rattle.head_driver.proofs.Answer as T
 use Rattle.head_driver.specs.declared.Answer.{Answer}
-use Rattle.script_reads.specs.Parts.{isRead}
+use Rattle.script_reads.specs.Parts.{readOrBare}
 use Rattle.script_answer.proofs.put_text.Statement.{statement}
 use Rattle.script_answer.proofs.put_text.Tie as tie
 
@@ -16,8 +16,8 @@ use Rattle.script_answer.proofs.put_text.Tie as tie
 abbrev others : List ℕ
 others = 2 ∷ 5 ∷ 6 ∷ 7 ∷ 8 ∷ 9 ∷ 10 ∷ 11 ∷ 12 ∷ 13 ∷ 14 ∷ []
 
-read : (a : Answer) → OneOf others (tagOf T.the-type a) → isRead a ≡ true
-unfolding isRead
+read : (a : Answer) → OneOf others (tagOf T.the-type a) → readOrBare a ≡ true
+unfolding readOrBare
 read (Answer.Ticket n) k = absurd (miss others 0 tt k)
 read (Answer.Claimed e) k = absurd (miss others 1 tt k)
 read Answer.Done k = refl

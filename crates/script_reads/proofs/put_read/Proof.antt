@@ -9,7 +9,7 @@ use borrow.Author.Needs.{needs}
 use Rattle.head_driver.proofs.Answer as T
 use Rattle.head_driver.specs.Answers.{said}
 use Rattle.head_driver.specs.declared.Answer.{Answer}
-use Rattle.script_reads.specs.Parts.{isRead}
+use Rattle.script_reads.specs.Parts.{readOrBare}
 use Rattle.script_reads.proofs.put_read.Statement.{statement}
 use Rattle.script_reads.proofs.put_read.Tie as tie
 
@@ -20,8 +20,8 @@ others = 0 ∷ 1 ∷ 2 ∷ 3 ∷ 4 ∷ 5 ∷ 11 ∷ 12 ∷ 13 ∷ 14 ∷ []
 not-read : {A : Type 0} → false ≡ true → A
 not-read e = let z : _≡_ {A = ℕ} 0 1 = cc in absurd (omega arith)
 
-no-values : (a : Answer) → isRead a ≡ true → OneOf others (tagOf T.the-type a) → said a .values ≡ []
-unfolding said isRead
+no-values : (a : Answer) → readOrBare a ≡ true → OneOf others (tagOf T.the-type a) → said a .values ≡ []
+unfolding said readOrBare
 no-values (Answer.Ticket n) e k = not-read e
 no-values (Answer.Claimed n) e k = not-read e
 no-values Answer.Done e k = refl
