@@ -2,7 +2,6 @@
 // Its code knows nothing of a head, a counter, a waiter or a line of text; its definitions hold the words and the kinds of values that answers say.
 use hash::Hash;
 
-pub mod delta_snapshot;
 pub mod read_hub;
 pub mod storage_memo;
 

@@ -1,7 +1,7 @@
 // From read_hub.rs: the link test, and what a prepared list can be.
 ghost use mathlib.Core.Path.{_≡_};
 ghost use Rattle.head_anchor.specs.Links.{follows, linkByHash, classifyLink};
-ghost use Rattle.head_anchor.specs.Lists.{hasHash, isNoHash, isLinked, isRead, asPrepared};
+ghost use Rattle.head_anchor.specs.Lists.{hasHash, isNoHash, asPrepared};
 use crate::AnchorSlot;
 use crate::BalSkip;
 use crate::BlockHash;
@@ -68,29 +68,6 @@ pub(crate) fn is_no_hash(skip: BalSkip) -> bool
     match skip {
         BalSkip::Nothing => false,
         BalSkip::NoHash => true,
-        BalSkip::Rpc(_) => false,
-        BalSkip::Decode(_) => false,
-    }
-}
-
-pub(crate) fn is_linked(link: Link) -> bool
-    ensures { λ r. ⌜ r ≡ isLinked link ⌝ }
-{
-    match link {
-        Link::Linked => true,
-        Link::NoParent => false,
-        Link::NotConsecutive => false,
-        Link::HashUnknown => false,
-        Link::HashMismatch => false,
-    }
-}
-
-pub(crate) fn is_read(skip: BalSkip) -> bool
-    ensures { λ r. ⌜ r ≡ isRead skip ⌝ }
-{
-    match skip {
-        BalSkip::Nothing => true,
-        BalSkip::NoHash => false,
         BalSkip::Rpc(_) => false,
         BalSkip::Decode(_) => false,
     }

@@ -9,7 +9,6 @@ use head_anchor::BalSkip;
 use head_anchor::CarryOutcome;
 use head_anchor::PreparedBal;
 use head_anchor::ReadAnchor;
-use head_anchor::delta_snapshot::apply_prepared;
 use head_anchor::read_hub::as_prepared;
 use head_attempt::HeadCompletion;
 use head_count::Counter;
@@ -19,11 +18,12 @@ use head_driver::Answer;
 use head_driver::Driver;
 use head_driver::Reply;
 use head_driver::head_lifecycle::answered;
-use head_driver::head_lifecycle::ending;
+use head_outcome::delta_snapshot::apply_prepared;
 use head_plan::head_lifecycle::ApplyPlan;
 use head_plan::head_lifecycle::plan_apply;
 use head_ready::HeadOutcome;
 use head_settle::head_lifecycle::settle;
+use head_wake::head_lifecycle::ending;
 
 pub(crate) fn settle_as(
     mut d: Driver,

@@ -1,13 +1,13 @@
 // From head_lifecycle.rs: delivery numbers, epochs and counters rise, and saturate.
 ghost use mathlib.Core.Path.{_≡_};
-ghost use Rattle.head_count.specs.Counters.{nextEpoch, nextSeq, noneCounted, raise, recordView, sameEpoch, sameSeq, up};
+ghost use Rattle.head_count.specs.Counters.{nextEpoch, nextSeq, raise, sameEpoch, sameSeq, up};
 use crate::Counter;
 use crate::Epoch;
 use crate::HeadStats;
 use crate::Seq;
 
 // The Rust's `saturating_add(1)`.
-pub(crate) fn raised(n: u64) -> u64
+pub fn raised(n: u64) -> u64
     ensures { λ r. ⌜ r ≡ up n ⌝ }
 {
     if n < 0xffff_ffff_ffff_ffff { n + 1 } else { n }
@@ -42,21 +42,6 @@ impl Epoch {
 }
 
 impl HeadStats {
-    pub fn new() -> HeadStats
-        ensures { λ r. ⌜ r ≡ noneCounted ⌝ }
-    {
-        HeadStats {
-            delivered: 0,
-            repeated: 0,
-            superseded: 0,
-            settled: 0,
-            already_current: 0,
-            discarded: 0,
-            ready_views: 0,
-            cold_views: 0,
-        }
-    }
-
     pub fn raise(mut self, counter: Counter) -> HeadStats
         ensures { λ r. ⌜ r ≡ raise counter self ⌝ }
     {
@@ -71,25 +56,5 @@ impl HeadStats {
             Counter::ColdViews => self.cold_views = raised(self.cold_views),
         }
         self
-    }
-
-    // A view was answered, ready or cold: the counter rises behind the reference. The Rust's `record_view`.
-    pub fn record_view(&mut self, ready: bool)
-        ensures { λ _. ⌜ now (self .exit) ≡ recordView ready (now (self .entry)) ⌝ }
-    {
-        if ready {
-            self.ready_views = raised(self.ready_views);
-        } else {
-            self.cold_views = raised(self.cold_views);
-        }
-    }
-
-    // The same of a record by value, which is lent to it. Each view that is counted comes this way.
-    pub fn with_view(self, ready: bool) -> HeadStats
-        ensures { λ r. ⌜ r ≡ recordView ready self ⌝ }
-    {
-        let mut stats = self;
-        stats.record_view(ready);
-        stats
     }
 }

@@ -30,8 +30,8 @@ use head_driver::Answer;
 use head_driver::Driver;
 use head_driver::Reply;
 use head_driver::head_lifecycle::answered;
-use head_driver::head_lifecycle::ending;
 use head_life::HeadLifecycle;
+use head_wake::head_lifecycle::ending;
 
 // Whether a delivery repeats the current head's, and then under which number.
 pub enum Repeat {

@@ -1,18 +1,23 @@
 // From head_lifecycle.rs: a new `BalHeadDriver`, the number of an answer, and what several calls share.
 ghost use mathlib.Core.Path.{_≡_};
 ghost use Rattle.head_anchor.specs.Lists.{outcome};
+ghost use Rattle.head_count.specs.Counters.{noneCounted};
 ghost use Rattle.head_driver.specs.Answers.{outcomeSaid, said};
 ghost use Rattle.head_driver.specs.New.{new};
-ghost use Rattle.head_driver.specs.Parts.{endingWith, replyOf, wakeCurrent};
+ghost use Rattle.head_driver.specs.Parts.{replyOf};
+ghost use Rattle.head_life.specs.State.{noHead};
 use crate::Answer;
 use crate::Driver;
 use crate::Reply;
-use head_attempt::HeadCompletion;
+use head_anchor::AnchorSlot;
 use head_attempt::Waiter;
 use head_attempt::WaiterSlot;
-use head_attempt::head_lifecycle::wake;
+use head_count::Epoch;
+use head_count::HeadStats;
+use head_count::Seq;
 use head_current::CurrentHead;
 use head_life::HeadLifecycle;
+use head_ready::GenerationSlot;
 use head_ready::HeadOutcome;
 
 pub(crate) fn outcome_number(outcome: HeadOutcome) -> u64
@@ -43,13 +48,44 @@ impl Answer {
     }
 }
 
+// The Rust's `HeadStats::default`.
+pub(crate) fn none_counted() -> HeadStats
+    ensures { λ r. ⌜ r ≡ noneCounted ⌝ }
+{
+    HeadStats {
+        delivered: 0,
+        repeated: 0,
+        superseded: 0,
+        settled: 0,
+        already_current: 0,
+        discarded: 0,
+        ready_views: 0,
+        cold_views: 0,
+    }
+}
+
+// The Rust's `HeadLifecycle::default`.
+pub(crate) fn no_head() -> HeadLifecycle
+    ensures { λ r. ⌜ r ≡ noHead ⌝ }
+{
+    HeadLifecycle {
+        current: CurrentHead::Absent,
+        superseded: AnchorSlot::Nothing,
+        installed: GenerationSlot::Nothing,
+        previous: GenerationSlot::Nothing,
+        seq: Seq(0),
+        claim_epoch: Epoch(0),
+        stats: none_counted(),
+    }
+}
+
 pub fn new() -> Driver
     ensures { λ r. ⌜ r ≡ new ⌝ }
 {
     let slot = WaiterSlot {
         waiter: Waiter::Free,
     };
-    let life = HeadLifecycle::new();
+    let life = no_head();
     Driver {
         life,
         waiters: [slot; 16],
@@ -60,31 +96,4 @@ pub fn answered(d: Driver, answer: Answer) -> Reply
     ensures { λ r. ⌜ r ≡ replyOf d answer ⌝ }
 {
     Reply { driver: d, answer }
-}
-
-// Only a preparing head has waiters parked on it.
-pub(crate) fn wake_current(
-    end: HeadCompletion,
-    life: HeadLifecycle,
-    waiters: [WaiterSlot; 16],
-) -> [WaiterSlot; 16]
-    ensures { λ r. ⌜ r ≡ wakeCurrent end (life .current) waiters ⌝ }
-{
-    let current = life.current;
-    let CurrentHead::Preparing(u) = current else {
-        return waiters;
-    };
-    wake(end, u.delivery.anchor, waiters)
-}
-
-// The next lifecycle, with the current preparation, if there is one, ended so.
-pub fn ending(d: Driver, next: HeadLifecycle, end: HeadCompletion) -> Driver
-    ensures { λ r. ⌜ r ≡ endingWith d next end ⌝ }
-{
-    let old = d.waiters;
-    let waiters = wake_current(end, d.life, old);
-    Driver {
-        life: next,
-        waiters,
-    }
 }

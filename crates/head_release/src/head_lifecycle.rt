@@ -14,8 +14,8 @@ use head_driver::Answer;
 use head_driver::Driver;
 use head_driver::Reply;
 use head_driver::head_lifecycle::answered;
-use head_driver::head_lifecycle::ending;
 use head_life::HeadLifecycle;
+use head_wake::head_lifecycle::ending;
 
 pub(crate) fn owned_unsettled(u: UnsettledHead, claim: PrepareClaim) -> bool
     ensures { λ r. ⌜ r ≡ owns u claim ⌝ }

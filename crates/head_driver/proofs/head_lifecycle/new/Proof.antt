@@ -7,4 +7,4 @@ pub new-spec : {M : Type 1} → statement M
 unfolding new
 new-spec = tie.close (tie.spec
     (λ c κs. tt)
-    (λ c. rw (← c .new .ensures)))
+    (λ c. rw (← c .no-head .ensures)))
