@@ -19,7 +19,7 @@ use head_ready::HeadCold;
 use head_ready::HeadReadiness;
 use head_ready::HeadView;
 use head_ready::Source;
-use view_count::head_lifecycle::record_view;
+use view_count::head_lifecycle::count_view;
 
 pub(crate) fn spare_reason(superseded: bool) -> HeadCold
     ensures { λ r. ⌜ r ≡ spareReason superseded ⌝ }
@@ -113,7 +113,7 @@ pub fn viewed(mut d: Driver, view: HeadView, shown: HeadView) -> Reply
     ensures { λ r. ⌜ r ≡ viewed d view shown ⌝ }
 {
     let readiness = view.readiness;
-    d.life = record_view(d.life, readiness);
+    d.life = count_view(d.life, readiness);
     answered(d, Answer::View(shown))
 }
 

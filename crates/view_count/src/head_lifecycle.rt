@@ -1,4 +1,4 @@
-// From head_lifecycle.rs: `HeadLifecycle::record_view`.
+// From head_lifecycle.rs: `HeadLifecycle::record_view`, of the counters alone, and the lifecycle with it.
 ghost use mathlib.Core.Path.{_≡_};
 ghost use Rattle.head_count.specs.Counters.{recordView};
 ghost use Rattle.head_life.specs.State.{viewCounted};
@@ -7,8 +7,8 @@ use head_count::head_lifecycle::raised;
 use head_life::HeadLifecycle;
 use head_ready::HeadReadiness;
 
-// A view was answered, ready or cold: the counter rises behind the reference.
-pub(crate) fn raise_view(stats: &mut HeadStats, ready: bool)
+// A view was answered, ready or cold: the counter rises behind the reference. The Rust's `record_view`.
+pub(crate) fn record_view(stats: &mut HeadStats, ready: bool)
     ensures { λ _. ⌜ now (stats .exit) ≡ recordView ready (now (stats .entry)) ⌝ }
 {
     if ready {
@@ -23,11 +23,12 @@ pub(crate) fn with_view(stats: HeadStats, ready: bool) -> HeadStats
     ensures { λ r. ⌜ r ≡ recordView ready stats ⌝ }
 {
     let mut lent = stats;
-    raise_view(&mut lent, ready);
+    record_view(&mut lent, ready);
     lent
 }
 
-pub fn record_view(life: HeadLifecycle, readiness: HeadReadiness) -> HeadLifecycle
+// The lifecycle after a view of that readiness was answered.
+pub fn count_view(life: HeadLifecycle, readiness: HeadReadiness) -> HeadLifecycle
     ensures { λ r. ⌜ r ≡ viewCounted life readiness ⌝ }
 {
     let mut next = life;

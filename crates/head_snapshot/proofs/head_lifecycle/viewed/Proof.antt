@@ -9,4 +9,4 @@ unfolding viewed withLife
 viewed-spec = tie.close (tie.spec
     (λ c κs. tt)
     (λ c κs. tt)
-    (λ c. rw (← c .before .record-view .ensures, ← c .answered .ensures)))
+    (λ c. rw (← c .before .count-view .ensures, ← c .answered .ensures)))
