@@ -1,6 +1,6 @@
 // From head_lifecycle.rs: delivery numbers, epochs and counters rise, and saturate.
 ghost use mathlib.Core.Path.{_≡_};
-ghost use Rattle.head_count.specs.Counters.{nextEpoch, nextSeq, raise, sameEpoch, sameSeq, up};
+ghost use Rattle.head_count.specs.Counters.{nextEpoch, nextSeq, raise, up};
 use crate::Counter;
 use crate::Epoch;
 use crate::HeadStats;
@@ -19,12 +19,6 @@ impl Seq {
     {
         Seq(raised(self.0))
     }
-
-    pub fn same(self, other: Seq) -> bool
-        ensures { λ r. ⌜ r ≡ sameSeq self other ⌝ }
-    {
-        self.0 == other.0
-    }
 }
 
 impl Epoch {
@@ -32,12 +26,6 @@ impl Epoch {
         ensures { λ r. ⌜ r ≡ nextEpoch self ⌝ }
     {
         Epoch(raised(self.0))
-    }
-
-    pub fn same(self, named: Epoch) -> bool
-        ensures { λ r. ⌜ r ≡ sameEpoch self named ⌝ }
-    {
-        self.0 == named.0
     }
 }
 

@@ -14,10 +14,9 @@ impl HeadDelivery {
     pub fn has_ticket(self, ticket: HeadTicket) -> bool
         ensures { λ r. ⌜ r ≡ ticketOf self ticket ⌝ }
     {
-        let seq = self.seq;
         both(
             same_anchor(self.anchor, ticket.anchor),
-            seq.same(ticket.seq),
+            self.seq.0 == ticket.seq.0,
         )
     }
 }

@@ -20,11 +20,10 @@ use head_wake::head_lifecycle::ending;
 pub(crate) fn owned_unsettled(u: UnsettledHead, claim: PrepareClaim) -> bool
     ensures { λ r. ⌜ r ≡ owns u claim ⌝ }
 {
-    let delivery = u.delivery;
-    let attempt = u.attempt;
-    let seq = delivery.seq;
-    let epoch = attempt.epoch;
-    both(seq.same(claim.seq), epoch.same(claim.epoch))
+    both(
+        u.delivery.seq.0 == claim.seq.0,
+        u.attempt.epoch.0 == claim.epoch.0,
+    )
 }
 
 pub(crate) fn owned_by(current: CurrentHead, claim: PrepareClaim) -> bool

@@ -1,9 +1,10 @@
-// From head_lifecycle.rs: `HeadLifecycle::record_settle` and `settle_current`, `CurrentHead::publish_settle` and `settled`.
+// From head_lifecycle.rs: `HeadLifecycle::record_settle` and `settle_current`, `CurrentHead::publish_settle` and `settled`, `settled_readiness`.
 ghost use mathlib.Core.Path.{_≡_};
 ghost use Rattle.head_anchor.specs.Lists.{outcome};
 ghost use Rattle.head_attempt.specs.Attempts.{publish};
 ghost use Rattle.head_current.specs.Heads.{delivery};
 ghost use Rattle.head_current.specs.Parts.{settledOf};
+ghost use Rattle.head_ready.specs.Generations.{previousAfter, settledReadiness};
 ghost use Rattle.head_settle.specs.Settles.{abandonment, settle, settledHead, settlingEpoch};
 use head_anchor::CarryOutcome;
 use head_anchor::ReadAnchor;
@@ -19,7 +20,8 @@ use head_current::UnsettledHead;
 use head_life::HeadLifecycle;
 use head_ready::Generation;
 use head_ready::GenerationSlot;
-use head_ready::head_lifecycle::settled_readiness;
+use head_ready::HeadCold;
+use head_ready::HeadReadiness;
 
 // Whether the attempt has ended abandoned, so that a settle needs a new one.
 pub(crate) fn abandoned(u: UnsettledHead) -> bool
@@ -102,6 +104,25 @@ pub(crate) fn settled_head(current: CurrentHead, epoch: Epoch, report: LastRepor
     }
 }
 
+pub(crate) fn settled_readiness(outcome: CarryOutcome) -> HeadReadiness
+    ensures { λ r. ⌜ r ≡ settledReadiness outcome ⌝ }
+{
+    match outcome {
+        CarryOutcome::Carried(_) => HeadReadiness::Ready,
+        CarryOutcome::Cold(link, skip) => HeadReadiness::Cold(HeadCold::Settled(link, skip)),
+    }
+}
+
+// What the previous slot holds after an apply with that outcome.
+pub(crate) fn previous_after(installed: GenerationSlot, outcome: CarryOutcome) -> GenerationSlot
+    ensures { λ r. ⌜ r ≡ previousAfter installed outcome ⌝ }
+{
+    match outcome {
+        CarryOutcome::Carried(_) => installed,
+        CarryOutcome::Cold(_, _) => GenerationSlot::Nothing,
+    }
+}
+
 // The Rust's `record_settle` and `settle_current`: an admitted apply at that anchor, with the host's numbers for its hub and its report.
 pub fn settle(
     life: HeadLifecycle,
@@ -122,7 +143,7 @@ pub fn settle(
         handle,
         readiness,
     });
-    let previous = prior.previous_after(outcome);
+    let previous = previous_after(prior, outcome);
     let stats = life.stats.raise(Counter::Settled);
     HeadLifecycle {
         current,
