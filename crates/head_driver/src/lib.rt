@@ -1,4 +1,4 @@
-// The driver: the lifecycle with the sixteen waiters, a new one, what it answers, and the steps that its calls share.
+// The driver: the lifecycle with the sixteen waiters, what it answers, and the reply that every call gives.
 // Knows nothing of the calls, nor of lines.
 use head_anchor::AnchorSlot;
 use head_anchor::Link;

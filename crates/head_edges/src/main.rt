@@ -16,7 +16,7 @@ use head_current::HeadTicket;
 use head_current::PrepareClaim;
 use head_driver::Answer;
 use head_driver::Driver;
-use head_driver::head_lifecycle::new;
+use head_new::head_lifecycle::new;
 use head_step::head_lifecycle::step;
 use libc::STDOUT_FILENO;
 use script_answer::LineAnswer;

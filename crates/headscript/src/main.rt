@@ -3,7 +3,7 @@
 ghost use Rattle.script.specs.Feeds.{reading};
 ghost use Rattle.headscript.specs.Reads.{AnswersAll, AnswersSome, MovesOn};
 use head_driver::Driver;
-use head_driver::head_lifecycle::new;
+use head_new::head_lifecycle::new;
 use libc::STDIN_FILENO;
 use libc::STDOUT_FILENO;
 use script::Fed;

@@ -9,7 +9,7 @@ use driver::LineAnswer;
 use driver::put_line;
 use driver::take_line;
 use head_driver::Driver;
-use head_driver::head_lifecycle::new;
+use head_new::head_lifecycle::new;
 use libc::STDIN_FILENO;
 use libc::STDOUT_FILENO;
 use script::Fed;
