@@ -10,10 +10,10 @@ ghost use Rattle.hash_text.specs.Reads.{readHash};
 ghost use Rattle.text.specs.Places.{here, Reads};
 ghost use Rattle.text.specs.Writes.{Wrote};
 use hash::Hash;
+use line_reader::word_from;
 use text::decimal::Number;
 use text::place::Place;
 use text_place::past;
-use text_place::word_from;
 use text_put::put::put;
 
 // What a byte says as a hexadecimal digit.

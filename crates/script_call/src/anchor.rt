@@ -10,10 +10,10 @@ use hash_text::read_hash;
 use head_anchor::AnchorSlot;
 use head_anchor::BlockHash;
 use head_anchor::ReadAnchor;
+use line_reader::word_from;
 use text::place::Place;
 use text_decimal::take_decimal;
 use text_place::past;
-use text_place::word_from;
 
 // A block's hash and the place after it; unknown where reading has stopped.
 pub struct BlockHashFrom {

@@ -6,10 +6,10 @@ use crate::spaced::is_none;
 use crate::spaced::past_byte;
 use crate::spaced::spaced_number;
 use head_anchor::BalSkip;
+use line_reader::word_from;
 use text::place::Place;
 use text::word::same;
 use text_place::past;
-use text_place::word_from;
 
 // A skip and the place after it; none where reading has stopped.
 pub struct SkipFrom {

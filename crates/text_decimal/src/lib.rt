@@ -5,11 +5,11 @@ ghost use Rattle.text.specs.Decimals.{digit, more, number};
 ghost use Rattle.text.specs.Rests.{readNumber};
 ghost use Rattle.text.specs.Places.{here, Reads};
 ghost use Rattle.text.specs.declared.decimal.Number.{Number};
+use line_reader::word_from;
 use text::decimal::Number;
 use text::decimal::NumberFrom;
 use text::place::Place;
 use text_place::past;
-use text_place::word_from;
 
 pub(crate) fn first_digit(b: u8) -> Number
     ensures { λ r. ⌜ r ≡ digit b ⌝ }

@@ -1,10 +1,9 @@
 // Reading on from a place of a line: over a given text, over a word, to the line's end.
 // Knows nothing of numbers, hashes or keywords.
 ghost use mathlib.Core.Path.{_≡_};
-ghost use Rattle.text.specs.Rests.{after, wordHere, past as Rests·past, atEnd};
+ghost use Rattle.text.specs.Rests.{after, past as Rests·past, atEnd};
 ghost use Rattle.text.specs.Places.{here};
 use text::place::Place;
-use text::word::next_word;
 
 // The place after a given text: the spaces and brackets between words.
 pub fn expect(line: &[u8], from: Place, text: &[u8]) -> Place
@@ -26,16 +25,6 @@ pub fn expect(line: &[u8], from: Place, text: &[u8]) -> Place
         i += 1;
     }
     Place::At(next)
-}
-
-// The word at a place. No word stands where reading has stopped: the part of the line that is handed back is empty.
-pub fn word_from(line: &[u8], from: Place) -> &[u8]
-    ensures { λ r. ⌜ now r ≡ wordHere (here (now (line .entry)) from) ⌝ }
-{
-    let Place::At(at) = from else {
-        return &line[0..0];
-    };
-    next_word(line, at)
 }
 
 // The place that many bytes on: after a word, by its length, so that the word is looked for once.
