@@ -1,6 +1,5 @@
--- For users: Back, what is written is read back; Only, nothing else is read. The others are the steps of single functions.
+-- For users: Back, what is written is read back; Only, nothing else is read; HexRead, the steps of those who read digits. HexFill has the steps of a function.
 pub mod Back
 pub mod Only
-pub mod Places
 pub mod HexFill
 pub mod HexRead

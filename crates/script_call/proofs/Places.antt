@@ -13,12 +13,12 @@ use Rattle.text.specs.Same.{sameText}
 use Rattle.text.specs.Places.{here, Reads}
 use Rattle.text.specs.declared.decimal.NumberFrom.{NumberFrom}
 use Rattle.text.specs.declared.place.Place.{Place}
-use Rattle.hash_text.specs.declared.HashFrom.{HashFrom}
 use Rattle.value_text.specs.Reads.{spacedNumber}
 use Rattle.script_call.specs.Values.{spacedHash, spacedAnchor, spacedSlot, spacedSkip}
 use Rattle.script_call.specs.declared.anchor.AnchorFrom.{AnchorFrom}
 use Rattle.script_call.specs.declared.anchor.SlotFrom.{SlotFrom}
 use Rattle.script_call.specs.declared.skip.SkipFrom.{SkipFrom}
+use Rattle.script_call.specs.declared.spaced.HashFrom.{HashFrom}
 use Rattle.script_call.specs.Calls.{ends, closed, spacedTicket, spacedList, readDeliver, readClaim, readRelease, readApply, readSnapshot, readWait, readResume, readCompletion, readLink, callNamed, laterNamed, callHere, call}
 use Rattle.script_call.specs.declared.LineCall.{LineCall}
 use Rattle.script_call.specs.declared.ListFrom.{ListFrom}

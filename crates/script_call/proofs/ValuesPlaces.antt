@@ -15,8 +15,7 @@ use Rattle.text.specs.Places.{here, Reads}
 use Rattle.text.specs.declared.decimal.NumberFrom.{NumberFrom}
 use Rattle.text.specs.declared.place.Place.{Place}
 use Rattle.hash_text.specs.LineHashes.{lineHash}
-use Rattle.hash_text.specs.Reads.{readHash}
-use Rattle.hash_text.specs.declared.HashFrom.{HashFrom}
+use Rattle.hash_text.specs.Reads.{hashGot, readHash}
 use Rattle.hash_text.specs.declared.HashWord.{HashWord}
 use Rattle.value_text.specs.Reads.{orWord, map, then, hashSaid, blockHashGot, readBlockHash, readAnchor, readSlot, spacedNumber, readFailure, readSkip}
 use Rattle.value_text.specs.Words.{wordText}
@@ -25,6 +24,7 @@ use Rattle.script_call.specs.Values.{spacedHash, spacedAnchor, spacedSlo
 use Rattle.script_call.specs.declared.anchor.AnchorFrom.{AnchorFrom}
 use Rattle.script_call.specs.declared.anchor.BlockHashFrom.{BlockHashFrom}
 use Rattle.script_call.specs.declared.skip.SkipFrom.{SkipFrom}
+use Rattle.script_call.specs.declared.spaced.HashFrom.{HashFrom}
 
 -- ---- after one space
 
@@ -66,6 +66,15 @@ module _ (l : List ℕ) (r : Rest) (i : Place) (e : here l i ≡ after (ascii " 
 -- ---- at a word: w is the word that the rest starts with
 
 module _ (l : List ℕ) (r : Rest) (w : List ℕ) (e : w ≡ wordHere r) where
+  -- `take_hash`
+  pub hash-got : (m : HashWord) (x : Hash) (q : Place) → m ≡ lineHash w → m ≡ HashWord.Value x → here l q ≡ past (length w) r → Reads l x q (readHash r)
+  unfolding readHash hashGot pastWord
+  hash-got m x q f g h = rw (← e, ← f, g, ← h) (record { is = refl; rest = refl })
+
+  pub hash-bad : (m : HashWord) → m ≡ lineHash w → m ≡ HashWord.Bad → Reads l (record { w0 = 0; w1 = 0; w2 = 0; w3 = 0 }) Place.Stopped (readHash r)
+  unfolding readHash hashGot here
+  hash-bad m f g = rw (← e, ← f, g) (record { is = refl; rest = refl })
+
   -- `take_block_hash`
   pub block-hash-none : (t : Bool) (q : Place) → t ≡ sameText w (ascii "none") → t ≡ true → here l q ≡ past (length w) r → Reads l BlockHash.Unknown q (readBlockHash Page.Line r)
   unfolding readBlockHash orWord wordText says pastWord

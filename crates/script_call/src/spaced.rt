@@ -1,19 +1,29 @@
 // What parts the values of a call, the word for no value, and numbers and hashes, each after one space.
 ghost use mathlib.Core.List.{[], _∷_};
 ghost use mathlib.Core.Path.{_≡_};
+ghost use Rattle.hash_text.specs.Reads.{readHash};
 ghost use Rattle.script_call.specs.Values.{spacedHash};
 ghost use Rattle.text.specs.Ascii.{ascii};
 ghost use Rattle.text.specs.Places.{here, Reads};
 ghost use Rattle.text.specs.Rests.{after};
 ghost use Rattle.text.specs.Same.{sameText};
 ghost use Rattle.value_text.specs.Reads.{spacedNumber};
-use hash_text::HashFrom;
-use hash_text::take_hash;
+use hash::Hash;
+use hash_read::read_hash;
+use hash_text::HashWord;
+use line_reader::word_from;
 use text::decimal::NumberFrom;
 use text::place::Place;
 use text::word::same;
 use text_decimal::take_decimal;
 use text_place::expect;
+use text_place::past;
+
+// A hash and the place after it; all zeros where reading has stopped.
+pub struct HashFrom {
+    pub value: Hash,
+    pub next: Place,
+}
 
 // The place after one byte, where that byte stands: what parts values is a space or a bracket.
 pub(crate) fn past_byte(line: &[u8], from: Place, byte: u8) -> Place
@@ -34,6 +44,28 @@ pub(crate) fn spaced_number(line: &[u8], from: Place) -> NumberFrom
     ensures { λ r. ⌜ Reads (now (line .entry)) (r .value) (r .next) (spacedNumber (here (now (line .entry)) from)) ⌝ }
 {
     take_decimal(line, past_byte(line, from, b' '))
+}
+
+// The hash of the word at a place, and the place after the word.
+pub(crate) fn take_hash(line: &[u8], from: Place) -> HashFrom
+    ensures { λ r. ⌜ Reads (now (line .entry)) (r .value) (r .next) (readHash (here (now (line .entry)) from)) ⌝ }
+{
+    let word = word_from(line, from);
+    match read_hash(word) {
+        HashWord::Value(h) => HashFrom {
+            value: h,
+            next: past(line, from, word.len()),
+        },
+        HashWord::Bad => HashFrom {
+            value: Hash {
+                w0: 0,
+                w1: 0,
+                w2: 0,
+                w3: 0,
+            },
+            next: Place::Stopped,
+        },
+    }
 }
 
 // A parent hash, which is never `none`.

@@ -3,13 +3,13 @@ use Prim.Native.Nat.{_-_}
 use mathlib.Core.Path.{_≡_, refl}
 use lib.ListN.{length, drop}
 use borrow.Author.Needs.{needs}
 use Rattle.hash_text.specs.Hex.{hexMore, hexNumber}
 use Rattle.text.specs.Digits.{readOn}
 use Rattle.text.specs.declared.decimal.Number.{Number}
 use Rattle.hash_text.proofs.HexRead.{more-bad}
 use Rattle.text.proofs.Digits.{on-more, on-bad, on-done}
-use Rattle.hash_text.proofs.read_hex.Statement.{statement}
-use Rattle.hash_text.proofs.read_hex.Tie as tie
+use Rattle.hash_read.proofs.read_hex.Statement.{statement}
+use Rattle.hash_read.proofs.read_hex.Tie as tie
 
 abbrev Inv-loop : tie.InvT-loop
 Inv-loop digits n₀ i₀ n i = readOn hexMore (Number.Value n) (drop i digits) ≡ hexNumber digits

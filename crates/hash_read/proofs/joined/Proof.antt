@@ -1,8 +1,8 @@
--- `hash_text::joined` meets its contract: on each way through its code the result is what the definition gives.
+-- `hash_read::joined` meets its contract: on each way through its code the result is what the definition gives.
 use borrow.Author.Needs.{needs}
 use Rattle.hash_text.specs.Hex.{joined}
-use Rattle.hash_text.proofs.joined.Statement.{statement}
-use Rattle.hash_text.proofs.joined.Tie as tie
+use Rattle.hash_read.proofs.joined.Statement.{statement}
+use Rattle.hash_read.proofs.joined.Tie as tie
 
 returns-2 : tie.Need-returns-2
 unfolding joined

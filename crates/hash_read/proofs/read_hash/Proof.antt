@@ -1,9 +1,9 @@
--- `hash_text::read_hash` meets its contract: on each way through its code the result is what the definition gives.
+-- `hash_read::read_hash` meets its contract: on each way through its code the result is what the definition gives.
 use borrow.Author.Needs.{needs}
 use Rattle.hash_text.specs.LineHashes.{lineHash}
 use Rattle.hash_text.proofs.HexRead.{hash-short, hash-long}
-use Rattle.hash_text.proofs.read_hash.Statement.{statement}
-use Rattle.hash_text.proofs.read_hash.Tie as tie
+use Rattle.hash_read.proofs.read_hash.Statement.{statement}
+use Rattle.hash_read.proofs.read_hash.Tie as tie
 
 returns : tie.Need-returns
 unfolding lineHash
