@@ -14,9 +14,9 @@ use Rattle.head_current.specs.Ranges.{ReportFits}
 use Rattle.head_count.specs.Ranges.{StatsFit}
 use Rattle.value_text.specs.Reads.{got, map, then}
 use Rattle.script_value.specs.Lines.{refusalOn}
-use Rattle.script_outcome.specs.Texts.{endText, linkText, outcomeText, readinessText, reportText, sourceText}
+use Rattle.script_outcome.specs.Texts.{endText, outcomeText, readinessText, reportText, sourceText}
 use Rattle.script_value.specs.Texts.{spacedText, statsText}
-use Rattle.value_text.specs.Texts.{anchorText, slotText}
+use Rattle.value_text.specs.Texts.{anchorText, linkText, slotText}
 use Rattle.value_text.proofs.Rows.{values-then}
 use Rattle.value_text.specs.Values.{valueText, valuesOn}
 use Rattle.value_text.specs.Words.{wordText}

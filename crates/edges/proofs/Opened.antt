@@ -112,7 +112,7 @@ lines = tt
 -- answer lines
 unfoldable answers : Unit {0}
 unfolding ValueTexts.blockHashText ValueTexts.anchorText ValueTexts.slotText CounterTexts.spacedText CounterTexts.fourText CounterTexts.statsText ValueForms.hashText
-    ValueForms.valueText ValueForms.valuesOn WordTexts.wordText OutcomeTexts.linkText OutcomeTexts.faultText ValueTexts.skipText OutcomeTexts.coldText
+    ValueForms.valueText ValueForms.valuesOn WordTexts.wordText ValueTexts.linkText ValueTexts.faultText ValueTexts.skipText OutcomeTexts.coldText
     OutcomeTexts.outcomeText OutcomeTexts.reportText OutcomeTexts.reasonText OutcomeTexts.readinessText OutcomeTexts.sourceText OutcomeTexts.endText
     AnswerTexts.refusalOn AnswerTexts.saidText AnswerTexts.answerText AnswerLines.answerLine
 answers = tt

@@ -6,11 +6,11 @@ use mathlib.Core.Path.{_≡_, refl, _∙_}
 use Rattle.head_anchor.specs.Values.{faultValue, linkValue, outcomeValue}
 use Rattle.head_anchor.specs.Words.{Word}
 use Rattle.head_driver.specs.Answers.{endValue, readinessValue, reportValue, sourceValue}
-use Rattle.script_outcome.specs.Texts.{coldText, endText, faultText, linkText, outcomeText, readinessText, reportText, sourceText}
+use Rattle.script_outcome.specs.Texts.{coldText, endText, outcomeText, readinessText, reportText, sourceText}
 use Rattle.value_text.proofs.Back.{skip-back}
 use Rattle.value_text.proofs.Keywords.{open-miss, word-hit, word-miss}
 use Rattle.value_text.specs.Reads.{got, map, then}
-use Rattle.value_text.specs.Texts.{skipText}
+use Rattle.value_text.specs.Texts.{faultText, linkText, skipText}
 use Rattle.script_value.specs.Texts.{spacedText}
 use Rattle.value_text.specs.Values.{valueText}
 use Rattle.value_text.specs.Words.{wordText}

@@ -7,10 +7,10 @@ use lib.ListN.{length, length-append}
 use Rattle.head_driver.specs.Answers.{outcomeSaid, said}
 use Rattle.script_answer.specs.Answers.{answerLine}
 use Rattle.script_value.specs.Lines.{answerText, refusalOn, saidText}
-use Rattle.script_outcome.specs.Texts.{endText, linkText, outcomeText, readinessText, reportText, sourceText}
+use Rattle.script_outcome.specs.Texts.{endText, outcomeText, readinessText, reportText, sourceText}
 use Rattle.value_text.proofs.Rows.{values-then}
 use Rattle.script_value.specs.Texts.{spacedText, statsText}
-use Rattle.value_text.specs.Texts.{anchorText, slotText}
+use Rattle.value_text.specs.Texts.{anchorText, linkText, slotText}
 use Rattle.value_text.specs.Values.{valueText, valuesOn}
 use Rattle.value_text.specs.Words.{wordText}
 use Rattle.text.specs.Ascii.{ascii}

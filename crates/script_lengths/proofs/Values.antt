@@ -8,8 +8,8 @@ use Rattle.hash_text.proofs.Back.{length-line-hash, length-sheet-hash}
 use Rattle.head_anchor.specs.Values.{blockHashValue, faultValue, linkValue, outcomeValue, skipValue, slotValue}
 use Rattle.head_driver.specs.Answers.{endValue, readinessValue, reportValue, sourceValue}
 use Rattle.value_text.proofs.Back.{anchor-form}
-use Rattle.script_outcome.specs.Texts.{coldText, endText, faultText, linkText, outcomeText, readinessText, reportText, sourceText}
-use Rattle.value_text.specs.Texts.{skipText, anchorText, blockHashText, slotText}
+use Rattle.script_outcome.specs.Texts.{coldText, endText, outcomeText, readinessText, reportText, sourceText}
+use Rattle.value_text.specs.Texts.{skipText, linkText, faultText, anchorText, blockHashText, slotText}
 use Rattle.script_value.proofs.Halves.{stats-split}
 use Rattle.script_value.specs.Texts.{fourText, spacedText, statsText}
 use Rattle.value_text.specs.Values.{hashText, valueText}

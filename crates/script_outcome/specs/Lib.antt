@@ -1,2 +1,2 @@
--- The text of links, skips, outcomes, reports, readiness, sources and ends, each by its name.
+-- The text of outcomes, reports, readiness, sources and ends, each by its name.
 pub mod Texts

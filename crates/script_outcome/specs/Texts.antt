@@ -1,7 +1,7 @@
 -- A name for the text of each value that holds no hash: it is the same on a line and on a sheet.
 use Prim.Native.Nat.{ℕ}
 use mathlib.Core.List.{List}
-use Rattle.head_anchor.specs.Values.{Value, faultValue, linkValue, outcomeValue, skipValue}
+use Rattle.head_anchor.specs.Values.{Value, faultValue, outcomeValue, skipValue}
 use Rattle.head_anchor.specs.Words.{Word}
 use Rattle.head_driver.specs.Answers.{endValue, readinessValue, reportValue, sourceValue}
 use Rattle.value_text.specs.Values.{valueText}
@@ -14,12 +14,6 @@ use Rattle.head_ready.specs.declared.HeadCold.{HeadCold}
 use Rattle.head_ready.specs.declared.HeadReadiness.{HeadReadiness}
 use Rattle.head_ready.specs.declared.Source.{Source}
 use Rattle.value_text.specs.declared.page.Page.{Page}
-
-unfoldable pub linkText : Link → List ℕ
-linkText link = valueText Page.Line (linkValue link)
-
-unfoldable pub faultText : Link → List ℕ
-faultText link = valueText Page.Line (faultValue link)
 
 unfoldable pub coldText : Link → BalSkip → List ℕ
 coldText link skip = valueText Page.Line (Value.three (Value.word Word.cold) (faultValue link) (skipValue skip))

@@ -2,57 +2,17 @@
 // No hash stands in an outcome, so its text is the same on a line and on a sheet. Its code knows nothing of what
 // holds an outcome; its definitions have the texts of reports, readiness, sources and ends too.
 ghost use Prim.Native.Nat.{_+_, _≤_};
-ghost use mathlib.Core.List.{_++_};
 ghost use lib.ListN.{length};
-ghost use Rattle.script_outcome.specs.Texts.{faultText, linkText, coldText, outcomeText};
+ghost use Rattle.script_outcome.specs.Texts.{coldText, outcomeText};
 ghost use Rattle.value_text.specs.Texts.{skipText};
-ghost use Rattle.text.specs.Ascii.{ascii};
-ghost use Rattle.text.specs.Decimals.{decimal};
 ghost use Rattle.text.specs.Writes.{Wrote};
 use head_anchor::BalSkip;
 use head_anchor::CarryOutcome;
 use head_anchor::Link;
-use text_put::decimal::put_decimal;
+use link_text::put_fault;
+use text_put::decimal::put_named;
 use text_put::put::put;
 use text_put::put::put_byte;
-
-// Puts what is wrong with a link, or `none`.
-pub(crate) fn put_fault(buf: &mut [u8], at: usize, link: Link) -> usize
-    requires { ⌜ at + 15 ≤ length (now buf) ⌝ }
-    ensures { λ r. ⌜ Wrote (now (buf .entry)) (now (buf .exit)) at r (faultText link) ⌝ }
-    ensures { λ r. ⌜ r ≤ at + 15 ⌝ }
-{
-    match link {
-        Link::Linked => put(buf, at, b"none"),
-        Link::NoParent => put(buf, at, b"no-parent"),
-        Link::NotConsecutive => put(buf, at, b"not-consecutive"),
-        Link::HashUnknown => put(buf, at, b"hash-unknown"),
-        Link::HashMismatch => put(buf, at, b"hash-mismatch"),
-    }
-}
-
-// Puts how a link stands: `linked`, or what is wrong with it.
-pub fn put_link_word(buf: &mut [u8], at: usize, link: Link) -> usize
-    requires { ⌜ at + 15 ≤ length (now buf) ⌝ }
-    ensures { λ r. ⌜ Wrote (now (buf .entry)) (now (buf .exit)) at r (linkText link) ⌝ }
-    ensures { λ r. ⌜ r ≤ at + 15 ⌝ }
-{
-    match link {
-        Link::Linked => put(buf, at, b"linked"),
-        _ => put_fault(buf, at, link),
-    }
-}
-
-// Puts a number behind its name, which begins with a bracket and ends with a space, and closes the bracket.
-pub fn put_named(buf: &mut [u8], at: usize, name: &[u8], n: u64) -> usize
-    requires { ⌜ at + (length (now name) + 21) ≤ length (now buf) ⌝ }
-    ensures { λ r. ⌜ Wrote (now (buf .entry)) (now (buf .exit)) at r (now (name .entry) ++ (decimal n ++ ascii ")")) ⌝ }
-    ensures { λ r. ⌜ r ≤ at + (length (now (name .entry)) + 21) ⌝ }
-{
-    let i = put(buf, at, name);
-    let j = put_decimal(buf, i, n);
-    put_byte(buf, j, b')')
-}
 
 // Puts why a list was not read, or `none`.
 pub(crate) fn put_skip(buf: &mut [u8], at: usize, skip: BalSkip) -> usize

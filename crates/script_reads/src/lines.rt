@@ -9,7 +9,7 @@ use head_anchor::Link;
 use head_attempt::HeadCompletion;
 use head_count::HeadStats;
 use head_current::LastReport;
-use script_outcome::put_link_word;
+use link_text::put_link_word;
 use script_ready::report::put_report;
 use script_value::counters::put_stats;
 use text_put::put::put;

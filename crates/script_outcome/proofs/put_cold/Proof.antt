@@ -3,8 +3,8 @@ use borrow.Author.Needs.{needs}
 use Rattle.value_text.specs.Values.{valueText}
 use Rattle.value_text.specs.Words.{wordText}
 use Rattle.text.proofs.Writes.{then}
-use Rattle.script_outcome.specs.Texts.{coldText, faultText}
-use Rattle.value_text.specs.Texts.{skipText}
+use Rattle.script_outcome.specs.Texts.{coldText}
+use Rattle.value_text.specs.Texts.{faultText, skipText}
 use Rattle.script_outcome.proofs.put_cold.Statement.{statement}
 use Rattle.script_outcome.proofs.put_cold.Tie as tie
 

@@ -1,7 +1,7 @@
 use native.Mathlib.Omega.{arith}
 use borrow.Author.Needs.{needs}
 use Rattle.head_driver.specs.Answers.{said}
-use Rattle.script_outcome.specs.Texts.{linkText}
+use Rattle.value_text.specs.Texts.{linkText}
 use Rattle.value_text.specs.Values.{valuesOn}
 use Rattle.value_text.specs.Words.{wordText}
 use Rattle.text.proofs.Writes.{then}

@@ -10,9 +10,9 @@ use Rattle.head_anchor.specs.declared.Link.{Link}
 use Rattle.text.proofs.Writes.{wrote-as}
 use Rattle.value_text.specs.Values.{valueText}
 use Rattle.value_text.specs.Words.{wordText}
-use Rattle.script_outcome.specs.Texts.{faultText, linkText}
-use Rattle.script_outcome.proofs.put_link_word.Statement.{statement}
-use Rattle.script_outcome.proofs.put_link_word.Tie as tie
+use Rattle.value_text.specs.Texts.{faultText, linkText}
+use Rattle.link_text.proofs.put_link_word.Statement.{statement}
+use Rattle.link_text.proofs.put_link_word.Tie as tie
 
 fault-told : (k : Link) → OneOf (1 ∷ 2 ∷ 3 ∷ 4 ∷ []) (tagOf T.the-type k) → faultText k ≡ linkText k
 unfolding faultText linkText faultValue linkValue

@@ -3,9 +3,9 @@ use borrow.Author.Needs.{needs}
 use Rattle.head_anchor.specs.Values.{faultValue}
 use Rattle.value_text.specs.Values.{valueText}
 use Rattle.value_text.specs.Words.{wordText}
-use Rattle.script_outcome.specs.Texts.{faultText}
-use Rattle.script_outcome.proofs.put_fault.Statement.{statement}
-use Rattle.script_outcome.proofs.put_fault.Tie as tie
+use Rattle.value_text.specs.Texts.{faultText}
+use Rattle.link_text.proofs.put_fault.Statement.{statement}
+use Rattle.link_text.proofs.put_fault.Tie as tie
 
 returns : tie.Need-returns
 unfolding faultText faultValue valueText wordText
