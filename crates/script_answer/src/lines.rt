@@ -11,7 +11,7 @@ use head_count::Epoch;
 use head_count::Seq;
 use head_ready::HeadView;
 use head_ready::Source;
-use script_ready::readiness::put_readiness;
+use script_ready::put_readiness;
 use text_put::decimal::put_decimal;
 use text_put::decimal::put_named;
 use text_put::put::put;

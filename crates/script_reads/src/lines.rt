@@ -10,7 +10,7 @@ use head_attempt::HeadCompletion;
 use head_count::HeadStats;
 use head_current::LastReport;
 use link_text::put_link_word;
-use script_ready::report::put_report;
+use script_report::put_report;
 use script_value::counters::put_stats;
 use text_put::put::put;
 use text_put::put::put_byte;

@@ -8,7 +8,7 @@ ghost use Rattle.text.specs.Ascii.{ascii};
 ghost use Rattle.text.specs.Writes.{Wrote};
 use head_ready::Generation;
 use head_ready::GenerationSlot;
-use script_ready::readiness::put_readiness;
+use script_ready::put_readiness;
 use script_value::counters::put_spaced;
 use text_put::put::put;
 use text_put::put::put_byte;

@@ -14,7 +14,7 @@ use head_current::HeadDelivery;
 use head_current::LastReport;
 use head_current::SettledHead;
 use head_current::UnsettledHead;
-use script_ready::report::put_report;
+use script_report::put_report;
 use script_value::counters::put_spaced;
 use text_put::put::put;
 use text_put::put::put_byte;

@@ -5,8 +5,8 @@ use Rattle.value_text.specs.Values.{valueText}
 use Rattle.value_text.specs.Words.{wordText}
 use Rattle.text.proofs.Writes.{then}
 use Rattle.script_outcome.specs.Texts.{outcomeText, reportText}
-use Rattle.script_ready.proofs.report.put_report.Statement.{statement}
-use Rattle.script_ready.proofs.report.put_report.Tie as tie
+use Rattle.script_report.proofs.put_report.Statement.{statement}
+use Rattle.script_report.proofs.put_report.Tie as tie
 
 returns : tie.Need-returns
 unfolding reportText reportValue outcomeText valueText wordText

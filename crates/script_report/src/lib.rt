@@ -1,4 +1,5 @@
-// Reports as text.
+// Reports as text into a lent buffer, for lines and sheets alike.
+// Knows nothing of an answer's line, nor of a sheet's.
 ghost use Prim.Native.Nat.{_+_, _≤_};
 ghost use lib.ListN.{length};
 ghost use Rattle.script_outcome.specs.Texts.{reportText};

@@ -5,8 +5,8 @@ use Rattle.head_driver.specs.Answers.{readinessValue}
 use Rattle.value_text.specs.Values.{valueText}
 use Rattle.value_text.specs.Words.{wordText}
 use Rattle.script_outcome.specs.Texts.{outcomeText, reasonText}
-use Rattle.script_ready.proofs.readiness.put_reason.Statement.{statement}
-use Rattle.script_ready.proofs.readiness.put_reason.Tie as tie
+use Rattle.script_ready.proofs.put_reason.Statement.{statement}
+use Rattle.script_ready.proofs.put_reason.Tie as tie
 
 returns : tie.Need-returns
 unfolding reasonText readinessValue valueText wordText

@@ -4,8 +4,8 @@ use Rattle.head_driver.specs.Answers.{readinessValue}
 use Rattle.value_text.specs.Values.{valueText}
 use Rattle.value_text.specs.Words.{wordText}
 use Rattle.script_outcome.specs.Texts.{readinessText, reasonText}
-use Rattle.script_ready.proofs.readiness.put_readiness.Statement.{statement}
-use Rattle.script_ready.proofs.readiness.put_readiness.Tie as tie
+use Rattle.script_ready.proofs.put_readiness.Statement.{statement}
+use Rattle.script_ready.proofs.put_readiness.Tie as tie
 
 returns : tie.Need-returns
 unfolding readinessText readinessValue reasonText valueText wordText
