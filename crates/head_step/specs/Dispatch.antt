@@ -7,7 +7,8 @@ use Rattle.head_link.specs.Link.{link}
 use Rattle.head_reads.specs.Calls.{heads, report, stats}
 use Rattle.head_release.specs.Release.{release}
 use Rattle.head_snapshot.specs.Snapshot.{snapshot}
-use Rattle.head_waits.specs.Calls.{resume, wait}
+use Rattle.head_wait.specs.Wait.{wait}
+use Rattle.head_resume.specs.Resume.{resume}
 use Rattle.head_call.specs.declared.Call.{Call}
 use Rattle.head_driver.specs.declared.Driver.{Driver}
 use Rattle.head_driver.specs.declared.Reply.{Reply}

@@ -1,0 +1,11 @@
+-- `head_wait::head_lifecycle::park` meets its contract: on each way through its code the result is what the definition gives.
+use Rattle.head_wait.specs.Wait.{put}
+use Rattle.head_wait.proofs.head_lifecycle.park.Statement.{statement}
+use Rattle.head_wait.proofs.head_lifecycle.park.Tie as tie
+
+pub park-spec : {M : Type 1} → statement M
+unfolding put
+park-spec = tie.close (tie.spec
+    (λ c κs. tt)
+    (λ c κs. tt)
+    (λ c. rw (← c .before .park-waiter .ensures, ← c .answered .ensures)))
