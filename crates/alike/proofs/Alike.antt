@@ -10,7 +10,7 @@ use Rattle.head_anchor.specs.Lists.{asPrepared}
 use Rattle.head_apply.specs.Apply.{apply, applyAs, settleAs}
 use Rattle.head_attempt.specs.Attempts.{firstEnd, publish, settled}
 use Rattle.head_current.specs.Heads.{anchorOf, delivery, ticketOf}
-use Rattle.head_reads.specs.Reports.{lastReport}
+use Rattle.head_report.specs.Reports.{lastReport}
 use Rattle.head_completion.specs.Ends.{published, endAt}
 use Rattle.head_deliver.specs.Delivered.{unsettled, delivered, replaced}
 use Rattle.head_settle.specs.Settles.{abandonment, isAbandoned, settledHead, settlingEpoch, settle}
@@ -27,7 +27,9 @@ use Rattle.head_claim.specs.Starts.{claimStartAt, claimStart}
 use Rattle.head_ready.specs.Generations.{slotAnchor}
 use Rattle.head_life.specs.State.{counted, viewCounted}
 use Rattle.head_completion.specs.Completion.{completion}
-use Rattle.head_reads.specs.Calls.{heads, report, stats}
+use Rattle.head_report.specs.Report.{report}
+use Rattle.head_stats.specs.Stats.{stats}
+use Rattle.head_heads.specs.Heads.{heads}
 use Rattle.head_link.specs.Link.{link}
 use Rattle.head_step.proofs.Asked.{asked}
 use Rattle.head_step.specs.Dispatch.{dispatch}

@@ -12,7 +12,7 @@ use Rattle.head_anchor.specs.Lists.{applyPrepared, isLinked, isRead, outcome}
 use Rattle.head_attempt.specs.Attempts.{firstEnd, minted, publish, settled}
 use Rattle.head_count.specs.Counters.{nextEpoch, nextSeq, raise, seqOf, up}
 use Rattle.head_current.specs.Heads.{delivery}
-use Rattle.head_reads.specs.Reports.{lastReport}
+use Rattle.head_report.specs.Reports.{lastReport}
 use Rattle.head_deliver.specs.Delivered.{unsettled, countDelivery, countReplaced, delivered, deliveredAt, newHead}
 use Rattle.head_settle.specs.Settles.{abandonment, settledHead, settlingEpoch, settle}
 use Rattle.head_claim.specs.Claimed.{claimedHead, claimed}

@@ -23,7 +23,9 @@ use Rattle.head_deliver.specs.Delivered.{delivered}
 use Rattle.head_ready.specs.Generations.{isReady, slotAnchor}
 use Rattle.head_life.specs.State.{counted, viewCounted, withStats}
 use Rattle.head_completion.specs.Completion.{completion}
-use Rattle.head_reads.specs.Calls.{heads, report, stats}
+use Rattle.head_report.specs.Report.{report}
+use Rattle.head_stats.specs.Stats.{stats}
+use Rattle.head_heads.specs.Heads.{heads}
 use Rattle.head_link.specs.Link.{link}
 use Rattle.head_step.proofs.Asked.{asked}
 use Rattle.head_step.specs.Dispatch.{dispatch}

@@ -7,7 +7,7 @@ use Rattle.head_anchor.specs.Anchors.{holds}
 use Rattle.head_attempt.specs.Attempts.{minted}
 use Rattle.head_count.specs.Counters.{epochOf, nextEpoch, seqOf}
 use Rattle.head_current.specs.Heads.{anchorOf, delivery}
-use Rattle.head_reads.specs.Reports.{lastReport}
+use Rattle.head_report.specs.Reports.{lastReport}
 use Rattle.head_completion.specs.Ends.{published}
 use Rattle.head_deliver.specs.Delivered.{deliveryOf}
 use Rattle.head_ready.specs.Generations.{slotAnchor}

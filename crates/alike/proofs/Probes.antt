@@ -7,10 +7,12 @@ use Rattle.hash.specs.Logic.{if}
 use Rattle.head_attempt.specs.Attempts.{minted}
 use Rattle.head_count.specs.Counters.{nextSeq, seqOf, up}
 use Rattle.head_current.specs.Heads.{delivery}
-use Rattle.head_reads.specs.Reports.{lastReport}
+use Rattle.head_report.specs.Reports.{lastReport}
 use Rattle.head_completion.specs.Ends.{published}
 use Rattle.head_ready.specs.Generations.{slotAnchor}
-use Rattle.head_reads.specs.Calls.{heads, report, stats}
+use Rattle.head_report.specs.Report.{report}
+use Rattle.head_stats.specs.Stats.{stats}
+use Rattle.head_heads.specs.Heads.{heads}
 use Rattle.head_step.specs.Dispatch.{dispatch}
 use Rattle.head_snapshot.specs.Views.{viewOf}
 use Rattle.hash.specs.declared.Hash.{Hash}

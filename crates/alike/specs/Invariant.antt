@@ -10,7 +10,7 @@ use Rattle.head_anchor.specs.Lists.{isLinked, isRead}
 use Rattle.head_attempt.specs.Attempts.{minted}
 use Rattle.head_count.specs.Counters.{seqOf}
 use Rattle.head_current.specs.Heads.{delivery}
-use Rattle.head_reads.specs.Reports.{lastReport}
+use Rattle.head_report.specs.Reports.{lastReport}
 use Rattle.head_ready.specs.Generations.{settledReadiness, slotAnchor}
 use Rattle.head_anchor.specs.declared.CarryOutcome.{CarryOutcome}
 use Rattle.head_anchor.specs.declared.AnchorSlot.{AnchorSlot}

@@ -32,8 +32,10 @@ use Rattle.head_resume.specs.Resume
 use Rattle.head_completion.specs.Completion
 use Rattle.head_completion.specs.Ends
 use Rattle.head_link.specs.Link
-use Rattle.head_reads.specs.Calls as ReadCalls
-use Rattle.head_reads.specs.Reports
+use Rattle.head_report.specs.Report
+use Rattle.head_report.specs.Reports
+use Rattle.head_stats.specs.Stats
+use Rattle.head_heads.specs.Heads as HeadsCall
 use Rattle.head_call.specs.Inputs
 use Rattle.head_call.specs.Tests
 use Rattle.head_step.specs.Dispatch
@@ -89,7 +91,7 @@ unfoldable calls : Unit {0}
 unfolding Said.readinessValue Said.sourceValue Said.endValue Said.reportValue Said.statsValues Said.outcomeSaid Said.said Deliver.deliver Claim.claim Release.release
     Snapshot.snapshot DriverParts.withLife Deliver.deliverAs Claim.claimAs Snapshot.viewed Apply.apply Apply.settleAs Apply.applyAs Wait.wait
     Resume.resume Wait.unownedReason Wait.unownedReadiness Wait.unowned Resume.abandonedView Wait.waiterAt Wait.put Wait.viewedBy
-    Wait.join Wait.waitAs Resume.resumeAs New.new Completion.completion Link.link ReadCalls.report ReadCalls.stats ReadCalls.heads Tests.listRefusal
+    Wait.join Wait.waitAs Resume.resumeAs New.new Completion.completion Link.link Report.report Stats.stats HeadsCall.heads Tests.listRefusal
     Tests.waiterRefusal Dispatch.dispatch Inputs.inputNumber Inputs.inputRefusal Steps.step
 calls = tt
 

@@ -4,7 +4,9 @@ use Rattle.head_claim.specs.Claim.{claim}
 use Rattle.head_completion.specs.Completion.{completion}
 use Rattle.head_deliver.specs.Deliver.{deliver}
 use Rattle.head_link.specs.Link.{link}
-use Rattle.head_reads.specs.Calls.{heads, report, stats}
+use Rattle.head_report.specs.Report.{report}
+use Rattle.head_stats.specs.Stats.{stats}
+use Rattle.head_heads.specs.Heads.{heads}
 use Rattle.head_release.specs.Release.{release}
 use Rattle.head_snapshot.specs.Snapshot.{snapshot}
 use Rattle.head_wait.specs.Wait.{wait}

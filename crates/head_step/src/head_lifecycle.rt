@@ -14,13 +14,13 @@ use head_driver::Answer;
 use head_driver::Driver;
 use head_driver::Reply;
 use head_driver::head_lifecycle::answered;
+use head_heads::head_lifecycle::heads;
 use head_link::head_lifecycle::link;
-use head_reads::head_lifecycle::heads;
-use head_reads::head_lifecycle::report;
-use head_reads::head_lifecycle::stats;
 use head_release::head_lifecycle::release;
+use head_report::head_lifecycle::report;
 use head_resume::head_lifecycle::resume;
 use head_snapshot::head_lifecycle::snapshot;
+use head_stats::head_lifecycle::stats;
 use head_wait::head_lifecycle::wait;
 
 // Each of these is exported too, and tests its input itself: none relies on a check made outside.

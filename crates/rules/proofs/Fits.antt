@@ -12,7 +12,7 @@ use Rattle.head_anchor.specs.Lists.{applyPrepared, asPrepared, isLinked, isRead
 use Rattle.head_apply.specs.Apply.{apply, applyAs, settleAs}
 use Rattle.head_count.specs.Counters.{nextEpoch, nextSeq}
 use Rattle.head_current.specs.Heads.{anchorOf, delivery, ticketOf}
-use Rattle.head_reads.specs.Reports.{lastReport}
+use Rattle.head_report.specs.Reports.{lastReport}
 use Rattle.head_deliver.specs.Repeats.{repeatOf, repeats, sameDelivery}
 use Rattle.head_release.specs.Owners.{ownedBy}
 use Rattle.head_claim.specs.Claim.{claim, claimAs}
@@ -23,7 +23,9 @@ use Rattle.head_plan.specs.Plans.{planApply, planAt, planHeld}
 use Rattle.head_claim.specs.Starts.{claimGate, claimStartAt, claimStart}
 use Rattle.head_ready.specs.Generations.{isReady, slotAnchor}
 use Rattle.head_completion.specs.Completion.{completion}
-use Rattle.head_reads.specs.Calls.{heads, report, stats}
+use Rattle.head_report.specs.Report.{report}
+use Rattle.head_stats.specs.Stats.{stats}
+use Rattle.head_heads.specs.Heads.{heads}
 use Rattle.head_link.specs.Link.{link}
 use Rattle.head_step.proofs.Asked.{asked}
 use Rattle.head_step.specs.Dispatch.{dispatch}

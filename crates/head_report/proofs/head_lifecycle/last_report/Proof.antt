@@ -1,6 +1,6 @@
-use Rattle.head_reads.specs.Reports.{lastReport}
-use Rattle.head_reads.proofs.head_lifecycle.last_report.Statement.{statement}
-use Rattle.head_reads.proofs.head_lifecycle.last_report.Tie as tie
+use Rattle.head_report.specs.Reports.{lastReport}
+use Rattle.head_report.proofs.head_lifecycle.last_report.Statement.{statement}
+use Rattle.head_report.proofs.head_lifecycle.last_report.Tie as tie
 
 pub last-report-spec : {M : Type 1} → statement M
 unfolding lastReport

@@ -1,3 +1,3 @@
-// The calls that only read the driver: report, stats, heads.
+// The call report: what the current head's own apply gave.
 // Knows nothing of the other calls, nor of lines.
 pub mod head_lifecycle;

@@ -1,8 +1,8 @@
--- `head_reads::head_lifecycle::heads` meets its contract: on each way through its code the result is what the definition gives.
+-- `head_heads::head_lifecycle::heads` meets its contract: on each way through its code the result is what the definition gives.
 use Rattle.head_driver.proofs.Replied.{replied}
-use Rattle.head_reads.specs.Calls.{heads}
-use Rattle.head_reads.proofs.head_lifecycle.heads.Statement.{statement}
-use Rattle.head_reads.proofs.head_lifecycle.heads.Tie as tie
+use Rattle.head_heads.specs.Heads.{heads}
+use Rattle.head_heads.proofs.head_lifecycle.heads.Statement.{statement}
+use Rattle.head_heads.proofs.head_lifecycle.heads.Tie as tie
 
 pub heads-spec : {M : Type 1} → statement M
 unfolding heads

@@ -1,8 +1,8 @@
-// From head_lifecycle.rs: `last_report`, `stats`, `delivered`, `installed` and `previous` of `BalHeadDriver`.
+// From head_lifecycle.rs: `BalHeadDriver::last_report`, `CurrentHead::report`.
 ghost use mathlib.Core.Path.{_≡_};
 ghost use Rattle.head_driver.specs.Answers.{Replies};
-ghost use Rattle.head_reads.specs.Calls.{heads, report, stats};
-ghost use Rattle.head_reads.specs.Reports.{lastReport};
+ghost use Rattle.head_report.specs.Report.{report};
+ghost use Rattle.head_report.specs.Reports.{lastReport};
 use head_current::CurrentHead;
 use head_current::LastReport;
 use head_driver::Answer;
@@ -27,24 +27,4 @@ pub fn report(d: Driver) -> Reply
     let life = d.life;
     let current = life.current;
     answered(d, Answer::Report(last_report(current)))
-}
-
-pub fn stats(d: Driver) -> Reply
-    ensures { λ r. ⌜ Replies r (stats d) ⌝ }
-{
-    let counted = d.life.stats;
-    answered(d, Answer::Stats(counted))
-}
-
-pub fn heads(d: Driver) -> Reply
-    ensures { λ r. ⌜ Replies r (heads d) ⌝ }
-{
-    let life = d.life;
-    let current = life.current;
-    let installed = life.installed;
-    let previous = life.previous;
-    answered(
-        d,
-        Answer::Heads(current.anchor(), installed.anchor(), previous.anchor()),
-    )
 }

@@ -1,0 +1,3 @@
+-- Document 01, "Lines": `report`. All of it is the paper's.
+pub mod Reports
+pub mod Report
