@@ -1,5 +1,5 @@
-// A reader that borrows a line and counts the bytes taken. What is done with it is thin: `take_word` takes it apart and leaves the
-// work to the tokenizer. Whoever has no reader calls `word_from`, whose parameters are plain.
+// A reader that borrows a line and counts the bytes taken. Its functions are thin: each takes it apart and leaves the work to a
+// function over the line and a place. Whoever has no reader calls `word_from`, whose parameters are plain.
 // Knows nothing of keywords, numbers or calls.
 ghost use mathlib.Core.Path.{_≡_};
 ghost use lib.ListN.{drop};
@@ -15,6 +15,23 @@ pub struct LineReader<'a> {
     pub taken: usize,
 }
 
+// The rest of a line from a place on. It is empty past the line's end.
+pub(crate) fn rest_from(line: &[u8], at: usize) -> &[u8]
+    ensures { λ r. ⌜ now r ≡ drop at (now (line .entry)) ⌝ }
+{
+    if at > line.len() {
+        return &line[0..0];
+    }
+    &line[at..]
+}
+
+// A reader of a line of which that many bytes are taken: 0 for a whole line.
+pub fn reader_of<'a>(line: &'a [u8], taken: usize) -> LineReader<'a>
+    ensures { λ r. ⌜ (r .line ≡ line .entry) × (r .taken ≡ taken) ⌝ }
+{
+    LineReader { line, taken }
+}
+
 // The next word, as part of the caller's line; its bytes are taken.
 pub fn take_word<'s, 'a>(r: &'s mut LineReader<'a>) -> &'a [u8]
     ensures { λ w. ⌜ (now w ≡ wordNext (now (r .entry))) × (now (r .exit) ≡ tookWord (now (r .entry))) ⌝ }
@@ -24,11 +41,24 @@ pub fn take_word<'s, 'a>(r: &'s mut LineReader<'a>) -> &'a [u8]
     w
 }
 
+pub fn bytes_taken<'a>(r: LineReader<'a>) -> usize
+    ensures { λ n. ⌜ n ≡ r .entry .taken ⌝ }
+{
+    r.taken
+}
+
+// What is left of the line.
+pub fn left<'a>(r: LineReader<'a>) -> &'a [u8]
+    ensures { λ s. ⌜ now s ≡ drop (r .entry .taken) (now (r .entry .line)) ⌝ }
+{
+    rest_from(r.line, r.taken)
+}
+
 // The word that starts at a place, read through a reader.
 pub(crate) fn word_at(line: &[u8], at: usize) -> &[u8]
     ensures { λ r. ⌜ now r ≡ word (drop at (now (line .entry))) ⌝ }
 {
-    let mut r = LineReader { line, taken: at };
+    let mut r = reader_of(line, at);
     take_word(&mut r)
 }
 
