@@ -3,6 +3,8 @@ ghost use mathlib.Core.Path.{_≡_};
 ghost use Rattle.head_driver.specs.Answers.{said};
 ghost use Rattle.head_edges.specs.Shown.{lengthOf};
 ghost use Rattle.head_step.specs.Steps.{step};
+use driver::LineAnswer;
+use driver::put_line;
 use hash::Hash;
 use head_anchor::AnchorSlot;
 use head_anchor::BalSkip;
@@ -19,8 +21,6 @@ use head_driver::Driver;
 use head_new::head_lifecycle::new;
 use head_step::head_lifecycle::step;
 use libc::STDOUT_FILENO;
-use script_answer::LineAnswer;
-use script_answer::put_line;
 use script_value::buffer::Written;
 
 fn length_of(written: Written) -> usize

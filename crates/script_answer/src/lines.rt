@@ -11,9 +11,9 @@ use head_count::Epoch;
 use head_count::Seq;
 use head_ready::HeadView;
 use head_ready::Source;
+use number_text::put_decimal;
+use number_text::put_named;
 use script_ready::put_readiness;
-use text_put::decimal::put_decimal;
-use text_put::decimal::put_named;
 use text_put::put::put;
 use text_put::put::put_byte;
 

@@ -10,7 +10,7 @@ use head_anchor::BalSkip;
 use head_anchor::CarryOutcome;
 use head_anchor::Link;
 use link_text::put_fault;
-use text_put::decimal::put_named;
+use number_text::put_named;
 use text_put::put::put;
 use text_put::put::put_byte;
 

@@ -15,7 +15,7 @@ use crate::lines::put_link;
 use crate::lines::put_report_line;
 use crate::lines::put_stats_line;
 use head_driver::Answer;
-use text_put::decimal::put_named;
+use number_text::put_named;
 use text_put::put::put;
 
 mod lines;

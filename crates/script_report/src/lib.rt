@@ -5,8 +5,8 @@ ghost use lib.ListN.{length};
 ghost use Rattle.script_outcome.specs.Texts.{reportText};
 ghost use Rattle.text.specs.Writes.{Wrote};
 use head_current::LastReport;
+use number_text::put_decimal;
 use script_outcome::put_outcome;
-use text_put::decimal::put_decimal;
 use text_put::put::put;
 use text_put::put::put_byte;
 

@@ -4,7 +4,7 @@ ghost use lib.ListN.{length};
 ghost use Rattle.script_value.specs.Texts.{spacedText, fourText, statsText};
 ghost use Rattle.text.specs.Writes.{Wrote};
 use head_count::HeadStats;
-use text_put::decimal::put_decimal;
+use number_text::put_decimal;
 use text_put::put::put_byte;
 
 // Puts ` N`.

@@ -12,7 +12,7 @@ ghost use Rattle.value_text.specs.declared.page.Page.{Page};
 use head_anchor::ReadAnchor;
 use head_attempt::Waiter;
 use head_attempt::WaiterSlot;
-use text_put::decimal::put_decimal;
+use number_text::put_decimal;
 use text_put::put::put;
 use value_text::anchor::put_anchor;
 use value_text::page::Page;

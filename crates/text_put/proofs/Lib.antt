@@ -1,3 +1,2 @@
--- Fill, a store into a row of digits; DecimalFill is the step of a single function.
+-- Fill: a store into a row of digits.
 pub mod Fill
-pub mod DecimalFill

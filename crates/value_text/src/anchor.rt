@@ -8,7 +8,7 @@ use crate::page::put_hash_on;
 use head_anchor::AnchorSlot;
 use head_anchor::BlockHash;
 use head_anchor::ReadAnchor;
-use text_put::decimal::put_decimal;
+use number_text::put_decimal;
 use text_put::put::put;
 use text_put::put::put_byte;
 

@@ -1,8 +1,8 @@
 use native.Mathlib.Omega.{arith}
 use borrow.Author.Needs.{needs}
 use Rattle.text.proofs.Writes.{then}
-use Rattle.text_put.proofs.decimal.put_named.Statement.{statement}
-use Rattle.text_put.proofs.decimal.put_named.Tie as tie
+use Rattle.number_text.proofs.put_named.Statement.{statement}
+use Rattle.number_text.proofs.put_named.Tie as tie
 
 returns : tie.Need-returns
 returns c =

@@ -4,9 +4,9 @@ use mathlib.Core.Path.{refl}
 use lib.ListN.{length-take, length-set}
 use borrow.Author.Needs.{needs}
 use Rattle.text.proofs.Writes.{wrote-as}
-use Rattle.text_put.proofs.DecimalFill.{Filled, filled-start, filled-left, filled-more, filled-done}
-use Rattle.text_put.proofs.decimal.put_decimal.Statement.{statement}
-use Rattle.text_put.proofs.decimal.put_decimal.Tie as tie
+use Rattle.number_text.proofs.DecimalFill.{Filled, filled-start, filled-left, filled-more, filled-done}
+use Rattle.number_text.proofs.put_decimal.Statement.{statement}
+use Rattle.number_text.proofs.put_decimal.Tie as tie
 
 abbrev Inv-loop : tie.InvT-loop
 Inv-loop buf at n digits₀ i₀ rest₀ digits i rest = Filled n digits i rest

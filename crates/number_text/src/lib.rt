@@ -1,12 +1,13 @@
-// Numbers as decimal text, bare and behind a name.
+// Numbers as decimal text into a lent buffer, bare and behind a name.
+// Knows nothing of what a number stands for.
 ghost use Prim.Native.Nat.{_+_, _≤_};
 ghost use mathlib.Core.List.{_++_};
 ghost use lib.ListN.{length};
 ghost use Rattle.text.specs.Ascii.{ascii};
 ghost use Rattle.text.specs.Decimals.{decimal};
 ghost use Rattle.text.specs.Writes.{Wrote};
-use crate::put::put;
-use crate::put::put_byte;
+use text_put::put::put;
+use text_put::put::put_byte;
 
 // Puts a number. Its digits come last first, so they are laid out beside the buffer.
 pub fn put_decimal(buf: &mut [u8], at: usize, n: u64) -> usize
