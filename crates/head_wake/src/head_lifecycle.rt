@@ -27,7 +27,11 @@ pub(crate) fn woken(end: HeadCompletion, anchor: ReadAnchor, waiter: Waiter) -> 
 }
 
 // The preparation at that anchor has ended, and so has the wait of everyone parked on it.
-pub(crate) fn wake(end: HeadCompletion, anchor: ReadAnchor, waiters: [WaiterSlot; 16]) -> [WaiterSlot; 16]
+pub(crate) fn wake(
+    end: HeadCompletion,
+    anchor: ReadAnchor,
+    waiters: [WaiterSlot; 16],
+) -> [WaiterSlot; 16]
     ensures { λ r. ⌜ r ≡ wake end anchor waiters ⌝ }
 {
     let mut out = waiters;
