@@ -247,25 +247,25 @@ module _ (i p : GenerationSlot) (n : Seq) (e : Epoch) (t : HeadStats) (ws : List
         (λ b. both-reply _))
 
     abbrev SamePlan : BalSkip → ℕ → ℕ → ℕ → ApplyPlan → Type 0
-    SamePlan skip handle carried made plan = Both (applyAs d₁ skip handle carried made plan) (applyAs d₂ skip handle carried made plan)
+    SamePlan skip handle carried report plan = Both (applyAs d₁ skip handle carried report plan) (applyAs d₂ skip handle carried report plan)
 
-    both-plan : (ticket : HeadTicket) (list : PreparedBal) (handle carried made : ℕ) (slot : DeliverySlot) → delivery c₁ ≡ slot
-        → SamePlan (list .skip) handle carried made (planAt (slotAnchor i) slot ticket (list .anchor))
+    both-plan : (ticket : HeadTicket) (list : PreparedBal) (handle carried report : ℕ) (slot : DeliverySlot) → delivery c₁ ≡ slot
+        → SamePlan (list .skip) handle carried report (planAt (slotAnchor i) slot ticket (list .anchor))
     unfolding applyAs planHeld settleAs withLife counted
-    both-plan ticket list handle carried made DeliverySlot.Nothing q = record { answer = refl; driver = alike w m }
-    both-plan ticket list handle carried made (DeliverySlot.Held held) q =
-        let P = SamePlan (list .skip) handle carried made in
+    both-plan ticket list handle carried report DeliverySlot.Nothing q = record { answer = refl; driver = alike w m }
+    both-plan ticket list handle carried report (DeliverySlot.Held held) q =
+        let P = SamePlan (list .skip) handle carried report in
         by-if P (ticketOf held ticket) _ _
         (λ b. by-if P (sameAnchor (list .anchor) (held .anchor)) _ _
         (λ b. by-if P (holds (slotAnchor i) (held .anchor)) _ _
         (λ b. both-reply _)
-        (λ b. record { answer = refl; driver = alike-settled s₁ s₂ w m f held q b _ _ handle made }))
+        (λ b. record { answer = refl; driver = alike-settled s₁ s₂ w m f held q b _ _ handle report }))
         (λ b. record { answer = refl; driver = alike w m }))
         (λ b. record { answer = refl; driver = alike w m })
 
-    both-apply : (ticket : HeadTicket) (list : PreparedBal) (handle carried made : ℕ) → Both (apply d₁ ticket list handle carried made) (apply d₂ ticket list handle carried made)
+    both-apply : (ticket : HeadTicket) (list : PreparedBal) (handle carried report : ℕ) → Both (apply d₁ ticket list handle carried report) (apply d₂ ticket list handle carried report)
     unfolding apply planApply
-    both-apply ticket list handle carried made = rw (← same-delivery w) (both-if (asPrepared list) _ _ _ _ (λ b. both-plan ticket list handle carried made (delivery c₁) refl) (λ b. both-reply _))
+    both-apply ticket list handle carried report = rw (← same-delivery w) (both-if (asPrepared list) _ _ _ _ (λ b. both-plan ticket list handle carried report (delivery c₁) refl) (λ b. both-reply _))
 
     -- views
 
@@ -308,7 +308,7 @@ module _ (i p : GenerationSlot) (n : Seq) (e : Epoch) (t : HeadStats) (ws : List
     both-dispatch (Call.Deliver a q cold) = rw (same-delivery w) (both-deliver a q cold _)
     both-dispatch (Call.Claim ticket) = rw (same-start w (slotAnchor i) e ticket) (both-claim _)
     both-dispatch (Call.Release owner) = both-release owner
-    both-dispatch (Call.Apply ticket list handle carried made) = both-apply ticket list handle carried made
+    both-dispatch (Call.Apply ticket list handle carried report) = both-apply ticket list handle carried report
     both-dispatch (Call.Snapshot a spare) = rw (same-view a spare) (both-viewed _ _)
     both-dispatch (Call.Wait k a spare) = both-if (ltb k 16) _ _ _ _ (λ b. both-wait (waiterAt ws k) k a spare) (λ b. both-reply _)
     both-dispatch (Call.Resume k spare) = both-if (ltb k 16) _ _ _ _ (λ b. both-resume (waiterAt ws k) k spare) (λ b. both-reply _)

@@ -263,7 +263,7 @@ ordered-move (Move.parks n a e) v = v
 ordered-move {d} (Move.delivers a p cold) v = ordered-delivered (d .life) v _ a p cold refl
 ordered-move {d} (Move.claims u q) v = ordered-claimed (d .life) v u q
 ordered-move {d} (Move.releases u q) v = ordered-released (d .life) v u q
-ordered-move {d} (Move.settles ticket list handle carried made held q e) v = ordered-settled (d .life) v held e (held .«parent_hash») (list .skip) carried handle made q
+ordered-move {d} (Move.settles ticket list handle carried report held q e) v = ordered-settled (d .life) v held e (held .«parent_hash») (list .skip) carried handle report q
 
 pub ordered-step : (d : Driver) (c : Call) → Ordered (d .life) → Ordered (step d c .driver .life)
 ordered-step d c v = ordered-move (step-move d c) v

@@ -58,7 +58,7 @@ parks-move {d} (Move.parks n a e) k = preparing-parks (d .life .current) a (set 
 parks-move {d} (Move.delivers a p cold) k = ending-parks d (delivered (d .life) a p cold) HeadCompletion.Superseded tt k
 parks-move (Move.claims u q) k = rw q tt
 parks-move {d} (Move.releases u q) k = ending-parks d (released (d .life)) HeadCompletion.Abandoned tt k
-parks-move {d} (Move.settles ticket list handle carried made held q e) k = ending-parks d (settle (d .life) _ _ handle made) HeadCompletion.Settled tt k
+parks-move {d} (Move.settles ticket list handle carried report held q e) k = ending-parks d (settle (d .life) _ _ handle report) HeadCompletion.Settled tt k
 
 pub parks-step : (d : Driver) (c : Call) → Parks (d .life .current) (d .waiters) → Parks (step d c .driver .life .current) (step d c .driver .waiters)
 parks-step d c k = parks-move (step-move d c) k

@@ -205,8 +205,8 @@ fits-move {d} (Move.parks n a e) r f = put-fits d n Waiter.Parked tt f
 fits-move {d} (Move.delivers a p cold) r f = ending-with-fits d _ _ f (delivered-fits (d .life) (f .life) a p cold (r .0) (r .1) (r .2))
 fits-move {d} (Move.claims u q) r f = with-life-fits d _ f (claimed-life-fits (d .life) (f .life))
 fits-move {d} (Move.releases u q) r f = ending-with-fits d _ _ f (released-life-fits (d .life) (f .life))
-fits-move {d} (Move.settles ticket list handle carried made held q e) r f = ending-with-fits d _ _ f
-    (settled-life-fits (d .life) (f .life) (held .anchor) _ handle made (held-fits (d .life .current) held q (f .life .current) .anchor) (outcome-fits _ _ _ (list .skip) carried (r .3) (r .5)) (r .4) (r .6))
+fits-move {d} (Move.settles ticket list handle carried report held q e) r f = ending-with-fits d _ _ f
+    (settled-life-fits (d .life) (f .life) (held .anchor) _ handle report (held-fits (d .life .current) held q (f .life .current) .anchor) (outcome-fits _ _ _ (list .skip) carried (r .3) (r .5)) (r .4) (r .6))
 
 pub fits-step : (d : Driver) (c : Call) → Writable c → DriverFits d → DriverFits (step d c .driver)
 fits-step d c r f = fits-move (step-move d c) r f

@@ -63,8 +63,8 @@ pub data Move (d : Driver) : Call → Driver → Type 0 where
   delivers : (a : ReadAnchor) (p : Hash) (cold : ℕ) → Move d (Call.Deliver a p cold) (endingWith d (delivered (d .life) a p cold) HeadCompletion.Superseded)
   claims : {c : Call} (u : UnsettledHead) → d .life .current ≡ CurrentHead.Unclaimed u → Move d c (withLife d (claimed (d .life) (nextEpoch (d .life .«claim_epoch»))))
   releases : {c : Call} (u : UnsettledHead) → d .life .current ≡ CurrentHead.Preparing u → Move d c (endingWith d (released (d .life)) HeadCompletion.Abandoned)
-  settles : (ticket : HeadTicket) (list : PreparedBal) (handle carried made : ℕ) (held : HeadDelivery) → delivery (d .life .current) ≡ DeliverySlot.Held held → holds (slotAnchor (d .life .installed)) (held .anchor) ≡ false
-      → Move d (Call.Apply ticket list handle carried made) (endingWith d (settle (d .life) (held .anchor) (applyPrepared (slotAnchor (d .life .installed)) (held .anchor) (held .«parent_hash») (list .skip) carried) handle made) HeadCompletion.Settled)
+  settles : (ticket : HeadTicket) (list : PreparedBal) (handle carried report : ℕ) (held : HeadDelivery) → delivery (d .life .current) ≡ DeliverySlot.Held held → holds (slotAnchor (d .life .installed)) (held .anchor) ≡ false
+      → Move d (Call.Apply ticket list handle carried report) (endingWith d (settle (d .life) (held .anchor) (applyPrepared (slotAnchor (d .life .installed)) (held .anchor) (held .«parent_hash») (list .skip) carried) handle report) HeadCompletion.Settled)
 
 -- a property of the driver that a reply leaves
 abbrev Leaves : Driver → Call → Reply → Type 0
@@ -127,29 +127,29 @@ unfolding deliverAs raise
 deliver-move d a p cold Repeat.New = delivers a p cold
 deliver-move d a p cold (Repeat.Of n) = counts Counter.Repeated refl
 
-module _ (d : Driver) (ticket : HeadTicket) (list : PreparedBal) (handle carried made : ℕ) where
+module _ (d : Driver) (ticket : HeadTicket) (list : PreparedBal) (handle carried report : ℕ) where
   abbrev Applies : ApplyPlan → Type 0
-  Applies plan = Leaves d (Call.Apply ticket list handle carried made) (applyAs d (list .skip) handle carried made plan)
+  Applies plan = Leaves d (Call.Apply ticket list handle carried report) (applyAs d (list .skip) handle carried report plan)
 
   plan-move : (slot : DeliverySlot) → delivery (d .life .current) ≡ slot → Applies (planAt (slotAnchor (d .life .installed)) slot ticket (list .anchor))
   unfolding applyAs planHeld settleAs raise
   plan-move DeliverySlot.Nothing q = counts Counter.Discarded refl
   plan-move (DeliverySlot.Held held) q = by-if Applies (ticketOf held ticket) _ _
       (λ e. by-if Applies (sameAnchor (list .anchor) (held .anchor)) _ _
-      (λ e. by-if Applies (holds (slotAnchor (d .life .installed)) (held .anchor)) _ _ (λ e. none) (λ e. settles ticket list handle carried made held q e))
+      (λ e. by-if Applies (holds (slotAnchor (d .life .installed)) (held .anchor)) _ _ (λ e. none) (λ e. settles ticket list handle carried report held q e))
       (λ e. counts Counter.Discarded refl))
       (λ e. counts Counter.Discarded refl)
 
-  apply-move : Leaves d (Call.Apply ticket list handle carried made) (apply d ticket list handle carried made)
+  apply-move : Leaves d (Call.Apply ticket list handle carried report) (apply d ticket list handle carried report)
   unfolding apply planApply
-  apply-move = by-if (Leaves d (Call.Apply ticket list handle carried made)) (asPrepared list) _ _ (λ e. plan-move (delivery (d .life .current)) refl) (λ e. none)
+  apply-move = by-if (Leaves d (Call.Apply ticket list handle carried report)) (asPrepared list) _ _ (λ e. plan-move (delivery (d .life .current)) refl) (λ e. none)
 
 dispatch-move : (d : Driver) (c : Call) → Leaves d c (dispatch d c)
 unfolding dispatch deliver claim claimStart snapshot wait resume completion link report stats heads
 dispatch-move d (Call.Deliver a p cold) = deliver-move d a p cold _
 dispatch-move d (Call.Claim ticket) = claim-move d _ (d .life .current) ticket refl
 dispatch-move d (Call.Release owner) = release-move d _ owner
-dispatch-move d (Call.Apply ticket list handle carried made) = apply-move d ticket list handle carried made
+dispatch-move d (Call.Apply ticket list handle carried report) = apply-move d ticket list handle carried report
 dispatch-move d (Call.Snapshot a spare) = viewed-move d _ _ _
 dispatch-move d (Call.Wait n a spare) = by-if (Leaves d _) (ltb n 16) _ _ (λ e. wait-move d _ _ n a spare) (λ e. none)
 dispatch-move d (Call.Resume n spare) = by-if (Leaves d _) (ltb n 16) _ _ (λ e. resume-move d _ _ n spare) (λ e. none)

@@ -15,7 +15,7 @@ unfoldable pub inputRefusal : Call → InputRefusal
 inputRefusal (Call.Deliver a p cold) = InputRefusal.Nothing
 inputRefusal (Call.Claim ticket) = InputRefusal.Nothing
 inputRefusal (Call.Release owner) = InputRefusal.Nothing
-inputRefusal (Call.Apply ticket list handle carried made) = listRefusal list
+inputRefusal (Call.Apply ticket list handle carried report) = listRefusal list
 inputRefusal (Call.Snapshot a spare) = InputRefusal.Nothing
 inputRefusal (Call.Wait n a spare) = waiterRefusal n
 inputRefusal (Call.Resume n spare) = waiterRefusal n

@@ -7,7 +7,7 @@ abbrev pub Writable : Call → Type 0
 Writable (Call.Deliver a p cold) = AnchorFits a × HashFits p × Fits cold
 Writable (Call.Claim ticket) = AnchorFits (ticket .anchor) × Fits (ticket .seq .0)
 Writable (Call.Release owner) = Fits (owner .seq .0) × Fits (owner .epoch .0)
-Writable (Call.Apply ticket list handle carried made) = AnchorFits (ticket .anchor) × Fits (ticket .seq .0) × AnchorFits (list .anchor) × SkipFits (list .skip) × Fits handle × Fits carried × Fits made
+Writable (Call.Apply ticket list handle carried report) = AnchorFits (ticket .anchor) × Fits (ticket .seq .0) × AnchorFits (list .anchor) × SkipFits (list .skip) × Fits handle × Fits carried × Fits report
 Writable (Call.Snapshot a spare) = AnchorFits a × Fits spare
 Writable (Call.Wait n a spare) = Fits n × AnchorFits a × Fits spare
 Writable (Call.Resume n spare) = Fits n × Fits spare

@@ -31,7 +31,7 @@ unfolding step inputRefusal listRefusal waiterRefusal dispatch apply wait resume
 asked d (Call.Deliver a p cold) = refl
 asked d (Call.Claim ticket) = refl
 asked d (Call.Release owner) = refl
-asked d (Call.Apply ticket list handle carried made) = list-asked (asPrepared list) d (Call.Apply ticket list handle carried made) _ refl
+asked d (Call.Apply ticket list handle carried report) = list-asked (asPrepared list) d (Call.Apply ticket list handle carried report) _ refl
 asked d (Call.Snapshot a spare) = refl
 asked d (Call.Wait n a spare) = waiter-asked (ltb n 16) d (Call.Wait n a spare) _ refl
 asked d (Call.Resume n spare) = waiter-asked (ltb n 16) d (Call.Resume n spare) _ refl

@@ -19,7 +19,7 @@ unfoldable pub dispatch : Driver → Call → Reply
 dispatch d (Call.Deliver a p cold) = deliver d a p cold
 dispatch d (Call.Claim ticket) = claim d ticket
 dispatch d (Call.Release owner) = release d owner
-dispatch d (Call.Apply ticket list handle carried made) = apply d ticket list handle carried made
+dispatch d (Call.Apply ticket list handle carried report) = apply d ticket list handle carried report
 dispatch d (Call.Snapshot a spare) = snapshot d a spare
 dispatch d (Call.Wait n a spare) = wait d n a spare
 dispatch d (Call.Resume n spare) = resume d n spare

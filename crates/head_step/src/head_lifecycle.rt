@@ -31,13 +31,13 @@ pub(crate) fn dispatch(d: Driver, call: Call) -> Reply
         Call::Deliver(anchor, parent_hash, cold) => return deliver(d, anchor, parent_hash, cold),
         Call::Claim(ticket) => return claim(d, ticket),
         Call::Release(owner) => return release(d, owner),
-        Call::Apply(ticket, list, handle, carried, made) => return apply(
+        Call::Apply(ticket, list, handle, carried, report) => return apply(
             d,
             ticket,
             list,
             handle,
             carried,
-            made,
+            report,
         ),
         Call::Snapshot(anchor, spare) => return snapshot(d, anchor, spare),
         Call::Wait(n, anchor, spare) => return wait(d, n, anchor, spare),

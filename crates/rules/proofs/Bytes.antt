@@ -135,7 +135,7 @@ unfolding callText plainTest
 call-plain (Call.Deliver a p h) = plain-then (ascii "(deliver ") _ (quoted (ascii "(deliver ") refl) (next _ _ (anchor-plain a) (next _ _ (hash-plain p) (ends _ (decimal-plain h))))
 call-plain (Call.Claim ticket) = plain-then (ascii "(claim ") _ (quoted (ascii "(claim ") refl) (next _ _ (anchor-plain (ticket .anchor)) (ends _ (decimal-plain (ticket .seq .0))))
 call-plain (Call.Release owner) = plain-then (ascii "(release ") _ (quoted (ascii "(release ") refl) (next _ _ (decimal-plain (owner .seq .0)) (ends _ (decimal-plain (owner .epoch .0))))
-call-plain (Call.Apply ticket list h c made) =
+call-plain (Call.Apply ticket list h c report) =
     plain-then (ascii "(apply ") _ (quoted (ascii "(apply ") refl)
     (next _ _ (anchor-plain (ticket .anchor))
     (next _ _ (decimal-plain (ticket .seq .0))
@@ -143,7 +143,7 @@ call-plain (Call.Apply ticket list h c made) =
     (next _ _ (skip-plain (list .skip))
     (next _ _ (decimal-plain h)
     (next _ _ (decimal-plain c)
-    (ends _ (decimal-plain made))))))))
+    (ends _ (decimal-plain report))))))))
 call-plain (Call.Snapshot a h) = plain-then (ascii "(snapshot ") _ (quoted (ascii "(snapshot ") refl) (next _ _ (anchor-plain a) (ends _ (decimal-plain h)))
 call-plain (Call.Wait n a h) = plain-then (ascii "(wait ") _ (quoted (ascii "(wait ") refl) (next _ _ (decimal-plain n) (next _ _ (anchor-plain a) (ends _ (decimal-plain h))))
 call-plain (Call.Resume n h) = plain-then (ascii "(resume ") _ (quoted (ascii "(resume ") refl) (next _ _ (decimal-plain n) (ends _ (decimal-plain h)))

@@ -149,11 +149,11 @@ outcome-fits : (i : AnchorSlot) (a : ReadAnchor) (p : Hash) (skip : BalSkip) (ca
 unfolding applyPrepared outcome
 outcome-fits i a p skip carried f g = by-if OutcomeFits (both (isLinked (classifyLink i a p)) (isRead skip)) _ _ (λ e. g) (λ e. f)
 
-applied-fits : (d : Driver) (skip : BalSkip) (handle carried made : ℕ) (plan : ApplyPlan) → SkipFits skip → Fits carried → PlanFits plan → Replied (applyAs d skip handle carried made plan)
+applied-fits : (d : Driver) (skip : BalSkip) (handle carried report : ℕ) (plan : ApplyPlan) → SkipFits skip → Fits carried → PlanFits plan → Replied (applyAs d skip handle carried report plan)
 unfolding applyAs settleAs
-applied-fits d skip handle carried made (ApplyPlan.Refused o) f g h = h
-applied-fits d skip handle carried made (ApplyPlan.Discarded o) f g h = h
-applied-fits d skip handle carried made (ApplyPlan.Admitted held) f g h = outcome-fits _ (held .anchor) (held .«parent_hash») skip carried f g
+applied-fits d skip handle carried report (ApplyPlan.Refused o) f g h = h
+applied-fits d skip handle carried report (ApplyPlan.Discarded o) f g h = h
+applied-fits d skip handle carried report (ApplyPlan.Admitted held) f g h = outcome-fits _ (held .anchor) (held .«parent_hash») skip carried f g
 
 -- ---- views
 
@@ -235,9 +235,9 @@ unfolding dispatch deliver claim claimStart release apply planApply snapshot vie
 dispatch-fits d (Call.Deliver a p cold) f r = delivered-fits d (delivery (d .life .current)) a p cold f (delivery-fits (d .life .current) (f .life .current))
 dispatch-fits d (Call.Claim ticket) f r = claimed-fits d _ (start-fits _ (d .life .«claim_epoch») (d .life .current) ticket (f .life .epoch) (f .life .current) (r .0))
 dispatch-fits d (Call.Release owner) f r = by-if Replied (ownedBy (d .life .current) owner) _ _ (λ e. tt) (λ e. tt)
-dispatch-fits d (Call.Apply ticket list handle carried made) f r =
+dispatch-fits d (Call.Apply ticket list handle carried report) f r =
     by-if Replied (asPrepared list) _ _
-    (λ e. applied-fits d (list .skip) handle carried made _ (r .3) (r .5) (plan-fits _ (delivery (d .life .current)) ticket (list .anchor) (delivery-fits (d .life .current) (f .life .current)) (r .0) (r .2)))
+    (λ e. applied-fits d (list .skip) handle carried report _ (r .3) (r .5) (plan-fits _ (delivery (d .life .current)) ticket (list .anchor) (delivery-fits (d .life .current) (f .life .current)) (r .0) (r .2)))
     (λ e. tt)
 dispatch-fits d (Call.Snapshot a spare) f r = view-fits (d .life) a spare (f .life) (r .1)
 dispatch-fits d (Call.Wait n a spare) f r = by-if Replied (ltb n 16) _ _ (λ e. wait-fits d (waiterAt (d .waiters) n) n a spare f (r .2)) (λ e. tt)

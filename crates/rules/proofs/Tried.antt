@@ -101,9 +101,9 @@ module _ (d : Driver) (ticket : HeadTicket) (i : GenerationSlot) where
 
 -- ---- apply
 
-module _ (d : Driver) (ticket : HeadTicket) (list : PreparedBal) (handle carried made : ℕ) where
+module _ (d : Driver) (ticket : HeadTicket) (list : PreparedBal) (handle carried report : ℕ) where
   abbrev Applies : List Test → ApplyPlan → Type 0
-  Applies ts p = Met d (Call.Apply ticket list handle carried made) ts (applyAs d (list .skip) handle carried made p)
+  Applies ts p = Met d (Call.Apply ticket list handle carried report) ts (applyAs d (list .skip) handle carried report p)
 
   -- 11, 12, 13
   plan-met : (i : GenerationSlot) (s : DeliverySlot) → Applies (superseded s ticket ∷ (foreign s list ∷ (alreadyInstalled i s ∷ []))) (planAt (slotAnchor i) s ticket (list .anchor))
@@ -163,10 +163,10 @@ unfolding dispatch deliver claim claimStart release apply planApply snapshot vie
 dispatch-met d (Call.Deliver a p cold) = deliver-met d a p cold (repeats (delivery (d .life .current)) a p)
 dispatch-met d (Call.Claim ticket) = claim-met d ticket (d .life .installed) (d .life .«claim_epoch») (d .life .current)
 dispatch-met d (Call.Release owner) = by-if (Met d (Call.Release owner) []) (ownedBy (d .life .current) owner) _ _ (λ e. record { first = refl; leaves = tt }) (λ e. record { first = refl; leaves = tt })
-dispatch-met d (Call.Apply ticket list handle carried made) =
-    let c = Call.Apply ticket list handle carried made in
+dispatch-met d (Call.Apply ticket list handle carried report) =
+    let c = Call.Apply ticket list handle carried report in
     by-if (Met d c (callTests d c)) (asPrepared list) _ _
-    (λ e. past (list-agrees list e) (plan-met d ticket list handle carried made (d .life .installed) (delivery (d .life .current))))
+    (λ e. past (list-agrees list e) (plan-met d ticket list handle carried report (d .life .installed) (delivery (d .life .current))))
     (λ e. record { first = inl (list-at-odds list e, refl); leaves = refl })
 dispatch-met d (Call.Snapshot a spare) = record { first = refl; leaves = tt }
 dispatch-met d (Call.Wait n a spare) =

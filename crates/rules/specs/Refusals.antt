@@ -113,7 +113,7 @@ abbrev pub callTests : Driver → Call → List Test
 callTests d (Call.Deliver a p cold) = []
 callTests d (Call.Claim ticket) = superseded (delivery (d .life .current)) ticket ∷ (alreadySettled (d .life .installed) (d .life .current) ∷ (inFlight (d .life .current) ∷ []))
 callTests d (Call.Release owner) = []
-callTests d (Call.Apply ticket list handle carried made) = atOdds list ∷ (superseded (delivery (d .life .current)) ticket ∷ (foreign (delivery (d .life .current)) list ∷ (alreadyInstalled (d .life .installed) (delivery (d .life .current)) ∷ [])))
+callTests d (Call.Apply ticket list handle carried report) = atOdds list ∷ (superseded (delivery (d .life .current)) ticket ∷ (foreign (delivery (d .life .current)) list ∷ (alreadyInstalled (d .life .installed) (delivery (d .life .current)) ∷ [])))
 callTests d (Call.Snapshot a spare) = []
 callTests d (Call.Wait n a spare) = noWaiter n ∷ (notFree (waiterAt (d .waiters) n) ∷ [])
 callTests d (Call.Resume n spare) = noWaiter n ∷ (free (waiterAt (d .waiters) n) ∷ [])
@@ -156,7 +156,7 @@ countedBy LineCall.Sheet n = false
 countedBy (LineCall.Make (Call.Deliver a p cold)) n = false
 countedBy (LineCall.Make (Call.Claim ticket)) n = false
 countedBy (LineCall.Make (Call.Release owner)) n = false
-countedBy (LineCall.Make (Call.Apply ticket list handle carried made)) n = if (eqb n 11) true (eqb n 12)
+countedBy (LineCall.Make (Call.Apply ticket list handle carried report)) n = if (eqb n 11) true (eqb n 12)
 countedBy (LineCall.Make (Call.Snapshot a spare)) n = false
 countedBy (LineCall.Make (Call.Wait m a spare)) n = false
 countedBy (LineCall.Make (Call.Resume m spare)) n = false

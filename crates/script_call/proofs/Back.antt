@@ -34,7 +34,7 @@ unfolding callText callNamed laterNamed sameText run inWord after step atEnd end
 call-back (Call.Deliver a p h) f = named (ascii "deliver") _ refl refl (short (Call.Deliver a p h)) ∙ simp (spaced-anchor-back, spaced-hash-back, spaced-number-back, f .0, f .1, f .2)
 call-back (Call.Claim ticket) f = named (ascii "claim") _ refl refl (short (Call.Claim ticket)) ∙ simp (spaced-anchor-back, spaced-number-back, f .0, f .1)
 call-back (Call.Release owner) f = named (ascii "release") _ refl refl (short (Call.Release owner)) ∙ simp (spaced-number-back, f .0, f .1)
-call-back (Call.Apply ticket list h c made) f = named (ascii "apply") _ refl refl (short (Call.Apply ticket list h c made)) ∙ simp (spaced-anchor-back, spaced-number-back, spaced-skip-back, f .0, f .1, f .2, f .3, f .4, f .5, f .6)
+call-back (Call.Apply ticket list h c report) f = named (ascii "apply") _ refl refl (short (Call.Apply ticket list h c report)) ∙ simp (spaced-anchor-back, spaced-number-back, spaced-skip-back, f .0, f .1, f .2, f .3, f .4, f .5, f .6)
 call-back (Call.Snapshot a h) f = named (ascii "snapshot") _ refl refl (short (Call.Snapshot a h)) ∙ simp (spaced-anchor-back, spaced-number-back, f .0, f .1)
 call-back (Call.Wait n a h) f = named (ascii "wait") _ refl refl (short (Call.Wait n a h)) ∙ simp (spaced-anchor-back, spaced-number-back, f .0, f .1, f .2)
 call-back (Call.Resume n h) f = named (ascii "resume") _ refl refl (short (Call.Resume n h)) ∙ simp (spaced-number-back, f .0, f .1)

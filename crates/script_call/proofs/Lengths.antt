@@ -13,7 +13,7 @@ unfolding callText
 length-call (Call.Deliver a p h) = simp length-append (omega (arith, length-anchor a, length-line-hash p, length-decimal h))
 length-call (Call.Claim ticket) = simp length-append (omega (arith, length-anchor (ticket .anchor), length-decimal (ticket .seq .0)))
 length-call (Call.Release owner) = simp length-append (omega (arith, length-decimal (owner .seq .0), length-decimal (owner .epoch .0)))
-length-call (Call.Apply ticket list h c made) = simp length-append (omega (arith, length-anchor (ticket .anchor), length-decimal (ticket .seq .0), length-anchor (list .anchor), length-skip (list .skip), length-decimal h, length-decimal c, length-decimal made))
+length-call (Call.Apply ticket list h c report) = simp length-append (omega (arith, length-anchor (ticket .anchor), length-decimal (ticket .seq .0), length-anchor (list .anchor), length-skip (list .skip), length-decimal h, length-decimal c, length-decimal report))
 length-call (Call.Snapshot a h) = simp length-append (omega (arith, length-anchor a, length-decimal h))
 length-call (Call.Wait n a h) = simp length-append (omega (arith, length-decimal n, length-anchor a, length-decimal h))
 length-call (Call.Resume n h) = simp length-append (omega (arith, length-decimal n, length-decimal h))

@@ -67,8 +67,8 @@ readApply r =
     let list = spacedList (ticket .next) in
     let h = spacedNumber (list .next) in
     let c = spacedNumber (h .next) in
-    let made = spacedNumber (c .next) in
-    closed (made .next) (Call.Apply (ticket .value) (list .value) (h .value) (c .value) (made .value))
+    let report = spacedNumber (c .next) in
+    closed (report .next) (Call.Apply (ticket .value) (list .value) (h .value) (c .value) (report .value))
 
 -- `(snapshot A H)`
 unfoldable pub readSnapshot : Rest → LineCall

@@ -12,7 +12,7 @@ unfoldable pub callText : Call → List ℕ
 callText (Call.Deliver a p h) = ascii "(deliver " ++ (anchorText Page.Line a ++ (ascii " " ++ (lineHashText p ++ (ascii " " ++ (decimal h ++ ascii ")")))))
 callText (Call.Claim ticket) = ascii "(claim " ++ (anchorText Page.Line (ticket .anchor) ++ (ascii " " ++ (decimal (ticket .seq .0) ++ ascii ")")))
 callText (Call.Release owner) = ascii "(release " ++ (decimal (owner .seq .0) ++ (ascii " " ++ (decimal (owner .epoch .0) ++ ascii ")")))
-callText (Call.Apply ticket list h c made) =
+callText (Call.Apply ticket list h c report) =
     ascii "(apply "
     ++ (anchorText Page.Line (ticket .anchor) ++ (ascii " "
     ++ (decimal (ticket .seq .0) ++ (ascii " "
@@ -20,7 +20,7 @@ callText (Call.Apply ticket list h c made) =
     ++ (skipText (list .skip) ++ (ascii " "
     ++ (decimal h ++ (ascii " "
     ++ (decimal c ++ (ascii " "
-    ++ (decimal made ++ ascii ")")))))))))))))
+    ++ (decimal report ++ ascii ")")))))))))))))
 callText (Call.Snapshot a h) = ascii "(snapshot " ++ (anchorText Page.Line a ++ (ascii " " ++ (decimal h ++ ascii ")")))
 callText (Call.Wait n a h) = ascii "(wait " ++ (decimal n ++ (ascii " " ++ (anchorText Page.Line a ++ (ascii " " ++ (decimal h ++ ascii ")")))))
 callText (Call.Resume n h) = ascii "(resume " ++ (decimal n ++ (ascii " " ++ (decimal h ++ ascii ")")))

@@ -148,14 +148,14 @@ pub(crate) fn read_apply(line: &[u8], from: Place) -> LineCall
     let i = h.next;
     let c = spaced_number(line, i);
     let i = c.next;
-    let made = spaced_number(line, i);
-    let i = made.next;
+    let report = spaced_number(line, i);
+    let i = report.next;
     let ticket = t.value;
     let list = b.value;
     closed(
         line,
         i,
-        Call::Apply(ticket, list, h.value, c.value, made.value),
+        Call::Apply(ticket, list, h.value, c.value, report.value),
     )
 }
 
