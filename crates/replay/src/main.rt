@@ -3,7 +3,7 @@
 ghost use Prim.Native.Nat.{_≤_};
 ghost use mathlib.Core.Path.{_≡_};
 ghost use lib.ListN.{length};
-ghost use Rattle.head_count.specs.Counters.{statsOf, up};
+ghost use Rattle.head_count.specs.Counters.{statsOf};
 ghost use Rattle.replay.specs.Recordings.{Collects, Counts, TakesAnswer, TakesRecord, afterAnswer, afterCall, atRun, begun, callCompared, compared, fresh, markOf, numberOf, runBegun, sameFront, started};
 use head_anchor::AnchorSlot;
 use head_attempt::Waiter;
@@ -11,6 +11,7 @@ use head_attempt::WaiterSlot;
 use head_count::Epoch;
 use head_count::HeadStats;
 use head_count::Seq;
+use head_count::head_lifecycle::raised;
 use head_current::CurrentHead;
 use head_driver::Driver;
 use head_life::HeadLifecycle;
@@ -41,12 +42,6 @@ struct Standing {
 struct Replay {
     driver: Driver,
     standing: Standing,
-}
-
-fn raised(n: u64) -> u64
-    ensures { λ r. ⌜ r ≡ up n ⌝ }
-{
-    if n < 0xffff_ffff_ffff_ffff { n + 1 } else { n }
 }
 
 fn begun(t: Tally) -> Tally

@@ -27,7 +27,8 @@ use Rattle.head_ready.specs.declared.HeadOutcome.{HeadOutcome}
 use Rattle.head_ready.specs.declared.HeadView.{HeadView}
 use Rattle.value_text.specs.declared.page.Page.{Page}
 use Rattle.script_lengths.specs.Statements.{AnswerLength, AnswerRoom}
-use Rattle.script_lengths.proofs.Values.{anchor-most, end-most, link-most, outcome-most, readiness-most, report-most, slot-most, source-most, spaced-most, stats-most}
+use Rattle.value_text.proofs.Lengths.{anchor-most, slot-most}
+use Rattle.script_lengths.proofs.Values.{end-most, link-most, outcome-most, readiness-most, report-most, source-most, spaced-most, stats-most}
 
 -- an answer's text is at most 271 bytes
 abbrev Short : Answer → Type 0

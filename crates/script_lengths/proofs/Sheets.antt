@@ -21,7 +21,8 @@ use Rattle.head_ready.specs.declared.GenerationSlot.{GenerationSlot}
 use Rattle.head_life.specs.declared.HeadLifecycle.{HeadLifecycle}
 use Rattle.value_text.specs.declared.page.Page.{Page}
 use Rattle.script_lengths.specs.Statements.{SheetLength, SheetRoom}
-use Rattle.script_lengths.proofs.Values.{anchor-most, hash-length, readiness-most, report-most, slot-most, spaced-most, stats-most}
+use Rattle.value_text.proofs.Lengths.{anchor-most, hash-length, slot-most}
+use Rattle.script_lengths.proofs.Values.{readiness-most, report-most, spaced-most, stats-most}
 
 count-most : (s : HeadStats) (e : Epoch) → length (countLine s e) ≤ 197
 unfolding countLine

@@ -1,36 +1,30 @@
--- How long a value's text can be.
+-- How long the text of a value of answers and sheets can be.
 use Prim.Native.Nat.{ℕ, _≤_}
 use native.Mathlib.Omega.{arith}
 use mathlib.Core.List.{_++_}
 use mathlib.Core.Path.{_≡_, refl}
 use lib.ListN.{length, length-append}
-use Rattle.hash_text.proofs.Back.{length-line-hash, length-sheet-hash}
-use Rattle.head_anchor.specs.Values.{blockHashValue, faultValue, linkValue, outcomeValue, skipValue, slotValue}
+use Rattle.head_anchor.specs.Values.{faultValue, linkValue, outcomeValue}
 use Rattle.head_driver.specs.Answers.{endValue, readinessValue, reportValue, sourceValue}
-use Rattle.value_text.proofs.Back.{anchor-form}
+use Rattle.value_text.proofs.Lengths.{skip-most}
 use Rattle.script_outcome.specs.Texts.{coldText, endText, outcomeText, readinessText, reportText, sourceText}
-use Rattle.value_text.specs.Texts.{skipText, linkText, faultText, anchorText, blockHashText, slotText}
+use Rattle.value_text.specs.Texts.{skipText, linkText, faultText}
 use Rattle.script_value.proofs.Halves.{stats-split}
 use Rattle.script_value.specs.Texts.{fourText, spacedText, statsText}
-use Rattle.value_text.specs.Values.{hashText, valueText}
+use Rattle.value_text.specs.Values.{valueText}
 use Rattle.value_text.specs.Words.{wordText}
 use Rattle.text.proofs.Back.{length-decimal}
 use Rattle.text.specs.Ascii.{ascii}
 use Rattle.text.specs.Decimals.{decimal}
-use Rattle.hash.specs.declared.Hash.{Hash}
 use Rattle.head_anchor.specs.declared.BalSkip.{BalSkip}
 use Rattle.head_anchor.specs.declared.CarryOutcome.{CarryOutcome}
 use Rattle.head_anchor.specs.declared.Link.{Link}
-use Rattle.head_anchor.specs.declared.AnchorSlot.{AnchorSlot}
-use Rattle.head_anchor.specs.declared.BlockHash.{BlockHash}
-use Rattle.head_anchor.specs.declared.ReadAnchor.{ReadAnchor}
 use Rattle.head_attempt.specs.declared.HeadCompletion.{HeadCompletion}
 use Rattle.head_count.specs.declared.HeadStats.{HeadStats}
 use Rattle.head_current.specs.declared.LastReport.{LastReport}
 use Rattle.head_ready.specs.declared.HeadCold.{HeadCold}
 use Rattle.head_ready.specs.declared.HeadReadiness.{HeadReadiness}
 use Rattle.head_ready.specs.declared.Source.{Source}
-use Rattle.value_text.specs.declared.page.Page.{Page}
 
 -- ---- counters
 
@@ -48,27 +42,7 @@ stats-most s =
     (simp length-append
     (omega (arith, four-most (s .delivered) (s .repeated) (s .superseded) (s .settled), four-most (s .«already_current») (s .discarded) (s .«ready_views») (s .«cold_views»))))
 
--- ---- anchors
-
-pub hash-length : (p : Page) (h : Hash) → length (hashText p h) ≡ 64
-unfolding hashText
-hash-length Page.Line h = length-line-hash h
-hash-length Page.Sheet h = length-sheet-hash h
-
-block-hash-most : (p : Page) (h : BlockHash) → length (blockHashText p h) ≤ 64
-unfolding blockHashText blockHashValue valueText wordText
-block-hash-most p BlockHash.Unknown = omega arith
-block-hash-most p (BlockHash.Known h) = omega (arith, hash-length p h)
-
-pub anchor-most : (p : Page) (a : ReadAnchor) → length (anchorText p a) ≤ 87
-anchor-most p a = rw (anchor-form p a) (simp length-append (omega (arith, length-decimal (a .number), block-hash-most p (a .hash))))
-
-pub slot-most : (p : Page) (s : AnchorSlot) → length (slotText p s) ≤ 87
-unfolding slotText slotValue anchorText valueText wordText
-slot-most p AnchorSlot.Nothing = omega arith
-slot-most p (AnchorSlot.At a) = anchor-most p a
-
--- ---- what holds no hash
+-- ---- links, outcomes, reports, readiness, sources and ends
 
 pub link-most : (k : Link) → length (linkText k) ≤ 15
 unfolding linkText linkValue valueText wordText
@@ -85,13 +59,6 @@ fault-most Link.NoParent = omega arith
 fault-most Link.NotConsecutive = omega arith
 fault-most Link.HashUnknown = omega arith
 fault-most Link.HashMismatch = omega arith
-
-skip-most : (x : BalSkip) → length (skipText x) ≤ 29
-unfolding skipText skipValue valueText wordText
-skip-most BalSkip.Nothing = omega arith
-skip-most BalSkip.NoHash = omega arith
-skip-most (BalSkip.Rpc n) = simp length-append (omega (arith, length-decimal n))
-skip-most (BalSkip.Decode n) = simp length-append (omega (arith, length-decimal n))
 
 cold-form : (k : Link) (x : BalSkip) → coldText k x ≡ ascii "(cold " ++ (faultText k ++ (ascii " " ++ (skipText x ++ ascii ")")))
 unfolding coldText faultText skipText valueText wordText
