@@ -1,12 +1,15 @@
 // The hash that a word of a line says.
 // Knows nothing of where the word stands, nor of how a hash is written.
+ghost use Prim.Native.Nat.{_<_, _^_, max};
 ghost use mathlib.Core.Path.{_≡_};
-ghost use Rattle.hash_text.specs.Hex.{digitValue, hexMore, hexNumber, joined as Hex·joined};
+ghost use mathlib.Core.List.{map};
+ghost use lib.ListN.{length};
+ghost use Rattle.hash_text.specs.Hex.{digitValue};
 ghost use Rattle.hash_text.specs.LineHashes.{lineHash};
+ghost use Rattle.hash_read.specs.Values.{valueOf, largest, numberOn};
 use hash::Hash;
 use hash_text::Digit;
 use hash_text::HashWord;
-use text::decimal::Number;
 
 pub(crate) fn digit_value(b: u8) -> Digit
     ensures { λ r. ⌜ r ≡ digitValue b ⌝ }
@@ -18,50 +21,52 @@ pub(crate) fn digit_value(b: u8) -> Digit
     }
 }
 
-// The number with a hexadecimal digit after it. The test comes before the sum, which is then below 2^64.
-pub(crate) fn one_more_hex(n: u64, b: u8) -> Number
-    ensures { λ r. ⌜ r ≡ hexMore (Number.Value n) b ⌝ }
+// A digit's value, and 255 for a byte that is none: a number and no enum, so that the loop over a word's bytes has no branch.
+pub(crate) fn value_of(b: u8) -> u8
+    ensures { λ r. ⌜ r ≡ valueOf b ⌝ }
 {
-    let Digit::Value(d) = digit_value(b) else {
-        return Number::Bad;
-    };
-    if n > 0x0fff_ffff_ffff_ffff {
-        return Number::Bad;
+    match digit_value(b) {
+        Digit::Value(d) => d as u8,
+        Digit::Bad => 255,
     }
-    Number::Value(n * 16 + d)
 }
 
-pub(crate) fn read_hex(digits: &[u8]) -> Number
-    ensures { λ r. ⌜ r ≡ hexNumber (now (digits .entry)) ⌝ }
+pub(crate) fn larger(a: u8, b: u8) -> u8
+    ensures { λ r. ⌜ r ≡ max a b ⌝ }
+{
+    if a < b { b } else { a }
+}
+
+// Lays out the values of a word's bytes, and hands back the largest, which tells whether all are digits. No byte ends the loop
+// early, so that it is compiled to sixteen bytes a turn.
+pub(crate) fn put_values(word: &[u8], values: &mut [u8]) -> u8
+    requires { ⌜ length (now word) ≡ length (now values) ⌝ }
+    ensures { λ r. ⌜ now (values .exit) ≡ map valueOf (now (word .entry)) ⌝ }
+    ensures { λ r. ⌜ r ≡ largest (now (word .entry)) ⌝ }
+{
+    let mut most = 0;
+    let mut i = 0;
+    while i < word.len() {
+        let v = value_of(word[i]);
+        values[i] = v;
+        most = larger(most, v);
+        i += 1;
+    }
+    most
+}
+
+// The number that a row of values says. They are known to be those of digits by now, so none is tested here.
+pub(crate) fn number(values: &[u8]) -> u64
+    requires { ⌜ numberOn 0 (now values) < 2 ^ 64 ⌝ }
+    ensures { λ r. ⌜ r ≡ numberOn 0 (now (values .entry)) ⌝ }
 {
     let mut n = 0;
     let mut i = 0;
-    while i < digits.len() {
-        let Number::Value(m) = one_more_hex(n, digits[i]) else {
-            return Number::Bad;
-        };
-        n = m;
+    while i < values.len() {
+        n = n * 16 + values[i] as u64;
         i += 1;
     }
-    Number::Value(n)
-}
-
-pub(crate) fn joined(a: Number, b: Number, c: Number, d: Number) -> HashWord
-    ensures { λ r. ⌜ r ≡ Hex·joined a b c d ⌝ }
-{
-    let Number::Value(w0) = a else {
-        return HashWord::Bad;
-    };
-    let Number::Value(w1) = b else {
-        return HashWord::Bad;
-    };
-    let Number::Value(w2) = c else {
-        return HashWord::Bad;
-    };
-    let Number::Value(w3) = d else {
-        return HashWord::Bad;
-    };
-    HashWord::Value(Hash { w0, w1, w2, w3 })
+    n
 }
 
 // What a word of a line says as a hash: sixteen digits for each of the four 64-bit words. For a caller that has the word in hand,
@@ -72,9 +77,13 @@ pub fn read_hash(word: &[u8]) -> HashWord
     if word.len() != 64 {
         return HashWord::Bad;
     }
-    let a = read_hex(&word[0..16]);
-    let b = read_hex(&word[16..32]);
-    let c = read_hex(&word[32..48]);
-    let d = read_hex(&word[48..64]);
-    joined(a, b, c, d)
+    let mut values = [0u8; 64];
+    if put_values(word, &mut values) > 15 {
+        return HashWord::Bad;
+    }
+    let w0 = number(&values[0..16]);
+    let w1 = number(&values[16..32]);
+    let w2 = number(&values[32..48]);
+    let w3 = number(&values[48..64]);
+    HashWord::Value(Hash { w0, w1, w2, w3 })
 }

@@ -68,18 +68,9 @@ digit-is b d e =
     none : Digit.Bad ≡ digitValue b → IsDigit b d
     none f = let z : _≡_ {A = ℕ} 0 1 = cc in absurd (omega arith)
 
-module _ (n b : ℕ) (g : Digit) (e : g ≡ digitValue b) where
-  pub more-none : g ≡ Digit.Bad → Number.Bad ≡ hexMore (Number.Value n) b
-  unfolding hexMore joinDigit
-  more-none f = rw (← e, f)
-
-  pub more-over : (d : ℕ) → g ≡ Digit.Value d → 1152921504606846975 < n → Number.Bad ≡ hexMore (Number.Value n) b
-  unfolding hexMore joinDigit
-  more-over d f h = rw (← e, f, le-ltb n (2 ^ 60) (omega arith))
-
-  pub more-value : (d : ℕ) → g ≡ Digit.Value d → n ≤ 1152921504606846975 → Number.Value (n * 16 + d) ≡ hexMore (Number.Value n) b
-  unfolding hexMore joinDigit
-  more-value d f h = rw (← e, f, lt-ltb n (2 ^ 60) (omega arith))
+pub more-value : (n b d : ℕ) → Digit.Value d ≡ digitValue b → n < 2 ^ 60 → Number.Value (n * 16 + d) ≡ hexMore (Number.Value n) b
+unfolding hexMore joinDigit
+more-value n b d e h = rw (← e, lt-ltb n (2 ^ 60) h)
 
 pub digit-small : (b d : ℕ) (g : Digit) → g ≡ digitValue b → g ≡ Digit.Value d → d < 16
 digit-small b d g e f = digit-is b d (sym e ∙ f) .small
@@ -90,7 +81,7 @@ more-bad b = refl
 
 -- ---- what was written is read back
 
-value-glyph : (d : ℕ) → d < 16 → Digit.Value d ≡ digitValue (glyph d)
+pub value-glyph : (d : ℕ) → d < 16 → Digit.Value d ≡ digitValue (glyph d)
 unfolding glyph
 value-glyph d h =
     by-cases (decLt d 10)
@@ -104,7 +95,7 @@ read-hexOn (suc k) n s h l =
     let g : n < 16 ^ k * 16 = rw (pow-suc 16 k) at h in
     let e : n / 16 * 16 + n % 16 ≡ n = omega arith in
     read-hexOn k (n / 16) (glyph (n % 16) ∷ s) (omega arith) (omega arith)
-    ∙ ap (λ (r : Number). readOn hexMore r s) (sym (more-value (n / 16) (glyph (n % 16)) (Digit.Value (n % 16)) (value-glyph (n % 16) (omega arith)) (n % 16) refl (omega arith)) ∙ ap Number.Value e)
+    ∙ ap (λ (r : Number). readOn hexMore r s) (sym (more-value (n / 16) (glyph (n % 16)) (n % 16) (value-glyph (n % 16) (omega arith)) (omega arith)) ∙ ap Number.Value e)
 
 read-hex : (n : ℕ) → n < 2 ^ 64 → hexNumber (hex n) ≡ Number.Value n
 unfolding hexNumber hex readOn

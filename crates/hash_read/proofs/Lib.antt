@@ -1,0 +1,2 @@
+-- Values: the steps of the functions.
+pub mod Values

@@ -1,0 +1,2 @@
+-- Values is the helpers'.
+pub mod Values
