@@ -35,8 +35,7 @@ use Rattle.head_step.proofs.Asked.{asked}
 use Rattle.head_step.specs.Dispatch.{dispatch}
 use Rattle.head_step.specs.Steps.{step}
 use Rattle.head_snapshot.specs.Views.{currentView, generationView, provisionalView, spareView, view}
-use Rattle.head_wait.specs.Wait.{join, preparingAt, put, viewedBy, wait, waitAs, waiterAt}
-use Rattle.head_resume.specs.Resume.{resume, resumeAs}
+use Rattle.head_waits.specs.Calls.{join, preparingAt, put, resume, resumeAs, viewedBy, wait, waitAs, waiterAt}
 use Rattle.hash.specs.declared.Hash.{Hash}
 use Rattle.head_anchor.specs.declared.BalSkip.{BalSkip}
 use Rattle.head_anchor.specs.declared.CarryOutcome.{CarryOutcome}

@@ -5,7 +5,7 @@ use mathlib.Core.List.{List}
 use mathlib.Core.Path.{_≡_, refl}
 use lib.ListN.{set}
 use Rattle.head_attempt.specs.Waiters.{slotOf}
-use Rattle.head_wait.specs.Wait.{preparingAt, put}
+use Rattle.head_waits.specs.Calls.{preparingAt, put}
 use Rattle.head_claim.specs.Claimed.{claimedHead, claimed}
 use Rattle.head_driver.specs.Parts.{endingWith, withLife}
 use Rattle.head_settle.specs.Settles.{settle}

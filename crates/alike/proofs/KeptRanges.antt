@@ -20,7 +20,7 @@ use Rattle.head_driver.specs.Parts.{endingWith, withLife}
 use Rattle.head_ready.specs.Generations.{previousAfter, settledReadiness, slotAnchor}
 use Rattle.head_life.specs.State.{counted}
 use Rattle.head_step.specs.Steps.{step}
-use Rattle.head_wait.specs.Wait.{put}
+use Rattle.head_waits.specs.Calls.{put}
 use Rattle.hash.specs.declared.Hash.{Hash}
 use Rattle.head_anchor.specs.declared.BalSkip.{BalSkip}
 use Rattle.head_anchor.specs.declared.CarryOutcome.{CarryOutcome}

@@ -30,8 +30,7 @@ use Rattle.head_link.specs.Link.{link}
 use Rattle.head_step.proofs.Asked.{asked}
 use Rattle.head_step.specs.Dispatch.{dispatch}
 use Rattle.head_step.specs.Steps.{step}
-use Rattle.head_wait.specs.Wait.{join, preparingAt, put, viewedBy, wait, waitAs}
-use Rattle.head_resume.specs.Resume.{resume, resumeAs}
+use Rattle.head_waits.specs.Calls.{join, preparingAt, put, resume, resumeAs, viewedBy, wait, waitAs}
 use Rattle.hash.specs.declared.Hash.{Hash}
 use Rattle.head_anchor.specs.declared.PreparedBal.{PreparedBal}
 use Rattle.head_anchor.specs.declared.AnchorSlot.{AnchorSlot}

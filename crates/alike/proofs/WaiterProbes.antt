@@ -25,8 +25,7 @@ use Rattle.head_ready.specs.Generations.{isReady}
 use Rattle.head_life.specs.State.{counted}
 use Rattle.head_step.specs.Dispatch.{dispatch}
 use Rattle.head_snapshot.specs.Views.{generationView, spareView, view, viewOf}
-use Rattle.head_wait.specs.Wait.{join, preparingAt, unowned, viewedBy, waiterAt}
-use Rattle.head_resume.specs.Resume.{abandonedView, resume, resumeAs}
+use Rattle.head_waits.specs.Calls.{abandonedView, join, preparingAt, resume, resumeAs, unowned, viewedBy, waiterAt}
 use Rattle.hash.specs.declared.Hash.{Hash}
 use Rattle.head_anchor.specs.declared.AnchorSlot.{AnchorSlot}
 use Rattle.head_anchor.specs.declared.ReadAnchor.{ReadAnchor}

@@ -6,7 +6,7 @@ use lib.ListN.{length, set}
 use Rattle.head_attempt.specs.Waiters.{slotOf, wake, woken}
 use Rattle.head_driver.specs.Parts.{wakeCurrent}
 use Rattle.head_driver.specs.New.{free}
-use Rattle.head_wait.specs.Wait.{waiterAt}
+use Rattle.head_waits.specs.Calls.{waiterAt}
 use Rattle.head_anchor.specs.declared.ReadAnchor.{ReadAnchor}
 use Rattle.head_attempt.specs.declared.HeadCompletion.{HeadCompletion}
 use Rattle.head_attempt.specs.declared.Waiter.{Waiter}

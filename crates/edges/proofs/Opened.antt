@@ -27,8 +27,7 @@ use Rattle.head_settle.specs.Settles
 use Rattle.head_apply.specs.Apply
 use Rattle.head_snapshot.specs.Snapshot
 use Rattle.head_snapshot.specs.Views
-use Rattle.head_wait.specs.Wait
-use Rattle.head_resume.specs.Resume
+use Rattle.head_waits.specs.Calls as WaitCalls
 use Rattle.head_completion.specs.Completion
 use Rattle.head_completion.specs.Ends
 use Rattle.head_link.specs.Link
@@ -74,7 +73,7 @@ anchors = tt
 unfoldable heads : Unit {0}
 unfolding Attempts.minted Attempts.settled Attempts.firstEnd Attempts.publish Counters.up Counters.nextSeq Counters.nextEpoch Counters.sameSeq Counters.sameEpoch
     Counters.noneCounted Counters.raise Counters.recordView Waiters.woken Waiters.wake Heads.delivery Heads.anchorOf Repeats.sameDelivery Repeats.repeatOf
-    Repeats.repeats Heads.ticketOf Ends.published Delivered.unsettled Wait.preparingAt Reports.lastReport Claimed.claimedHead Owners.owns Owners.ownedBy
+    Repeats.repeats Heads.ticketOf Ends.published Delivered.unsettled WaitCalls.preparingAt Reports.lastReport Claimed.claimedHead Owners.owns Owners.ownedBy
     Released.releasedHead Settles.abandonment Settles.settlingEpoch Settles.settledHead DriverParts.wakeCurrent
 heads = tt
 
@@ -89,9 +88,9 @@ life = tt
 -- the calls
 unfoldable calls : Unit {0}
 unfolding Said.readinessValue Said.sourceValue Said.endValue Said.reportValue Said.statsValues Said.outcomeSaid Said.said Deliver.deliver Claim.claim Release.release
-    Snapshot.snapshot DriverParts.withLife Deliver.deliverAs Claim.claimAs Snapshot.viewed Apply.apply Apply.settleAs Apply.applyAs Wait.wait
-    Resume.resume Wait.unownedReason Wait.unownedReadiness Wait.unowned Resume.abandonedView Wait.waiterAt Wait.put Wait.viewedBy
-    Wait.join Wait.waitAs Resume.resumeAs New.new Completion.completion Link.link Report.report Stats.stats HeadsCall.heads Tests.listRefusal
+    Snapshot.snapshot DriverParts.withLife Deliver.deliverAs Claim.claimAs Snapshot.viewed Apply.apply Apply.settleAs Apply.applyAs WaitCalls.wait
+    WaitCalls.resume WaitCalls.unownedReason WaitCalls.unownedReadiness WaitCalls.unowned WaitCalls.abandonedView WaitCalls.waiterAt WaitCalls.put WaitCalls.viewedBy
+    WaitCalls.join WaitCalls.waitAs WaitCalls.resumeAs New.new Completion.completion Link.link Report.report Stats.stats HeadsCall.heads Tests.listRefusal
     Tests.waiterRefusal Dispatch.dispatch Inputs.inputNumber Inputs.inputRefusal Steps.step
 calls = tt
 

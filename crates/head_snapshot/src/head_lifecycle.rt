@@ -95,7 +95,7 @@ pub(crate) fn current_view(current: CurrentHead, anchor: ReadAnchor, other: Head
 }
 
 // What a snapshot at that anchor reads, first that fits. `spare` is the handle of a cold generation that the host made for this call.
-pub(crate) fn lookup(life: HeadLifecycle, anchor: ReadAnchor, spare: u64) -> HeadView
+pub fn lookup(life: HeadLifecycle, anchor: ReadAnchor, spare: u64) -> HeadView
     ensures { λ r. ⌜ r ≡ view life anchor spare ⌝ }
 {
     let superseded = life.superseded;
@@ -109,7 +109,7 @@ pub(crate) fn lookup(life: HeadLifecycle, anchor: ReadAnchor, spare: u64) -> Hea
 }
 
 // Counts the view and answers what is shown of it.
-pub(crate) fn viewed(mut d: Driver, view: HeadView, shown: HeadView) -> Reply
+pub fn viewed(mut d: Driver, view: HeadView, shown: HeadView) -> Reply
     ensures { λ r. ⌜ r ≡ viewed d view shown ⌝ }
 {
     let readiness = view.readiness;

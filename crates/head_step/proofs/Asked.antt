@@ -6,8 +6,7 @@ use Rattle.hash.specs.Logic.{if}
 use Rattle.head_anchor.specs.Lists.{asPrepared}
 use Rattle.head_apply.specs.Apply.{apply}
 use Rattle.head_driver.specs.Parts.{replyOf}
-use Rattle.head_wait.specs.Wait.{wait}
-use Rattle.head_resume.specs.Resume.{resume}
+use Rattle.head_waits.specs.Calls.{resume, wait}
 use Rattle.head_driver.specs.declared.Answer.{Answer}
 use Rattle.head_driver.specs.declared.Driver.{Driver}
 use Rattle.head_driver.specs.declared.Reply.{Reply}

@@ -9,8 +9,7 @@ use Rattle.head_stats.specs.Stats.{stats}
 use Rattle.head_heads.specs.Heads.{heads}
 use Rattle.head_release.specs.Release.{release}
 use Rattle.head_snapshot.specs.Snapshot.{snapshot}
-use Rattle.head_wait.specs.Wait.{wait}
-use Rattle.head_resume.specs.Resume.{resume}
+use Rattle.head_waits.specs.Calls.{resume, wait}
 use Rattle.head_call.specs.declared.Call.{Call}
 use Rattle.head_driver.specs.declared.Driver.{Driver}
 use Rattle.head_driver.specs.declared.Reply.{Reply}

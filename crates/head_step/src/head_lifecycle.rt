@@ -18,10 +18,10 @@ use head_heads::head_lifecycle::heads;
 use head_link::head_lifecycle::link;
 use head_release::head_lifecycle::release;
 use head_report::head_lifecycle::report;
-use head_resume::head_lifecycle::resume;
 use head_snapshot::head_lifecycle::snapshot;
 use head_stats::head_lifecycle::stats;
-use head_wait::head_lifecycle::wait;
+use head_waits::head_lifecycle::resume;
+use head_waits::head_lifecycle::wait;
 
 // Each of these is exported too, and tests its input itself: none relies on a check made outside.
 pub(crate) fn dispatch(d: Driver, call: Call) -> Reply

@@ -10,7 +10,7 @@ use Rattle.hash.specs.Logic.{if}
 use Rattle.head_count.specs.Counters.{statsOf, up}
 use Rattle.head_current.specs.Heads.{delivery}
 use Rattle.head_life.specs.State.{withStats}
-use Rattle.head_wait.specs.Wait.{waiterAt}
+use Rattle.head_waits.specs.Calls.{waiterAt}
 use Rattle.script_call.specs.Calls.{call}
 use Rattle.head_call.specs.Ranges.{Writable}
 use Rattle.script_call.specs.Texts.{callText}
