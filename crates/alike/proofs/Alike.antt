@@ -34,7 +34,7 @@ use Rattle.head_link.specs.Link.{link}
 use Rattle.head_step.proofs.Asked.{asked}
 use Rattle.head_step.specs.Dispatch.{dispatch}
 use Rattle.head_step.specs.Steps.{step}
-use Rattle.head_snapshot.specs.Views.{currentView, generationView, provisionalView, spareView, view}
+use Rattle.head_view.specs.Views.{currentView, generationView, provisionalView, spareView, view}
 use Rattle.head_waits.specs.Calls.{join, preparingAt, put, resume, resumeAs, viewedBy, wait, waitAs, waiterAt}
 use Rattle.hash.specs.declared.Hash.{Hash}
 use Rattle.head_anchor.specs.declared.BalSkip.{BalSkip}

@@ -9,7 +9,7 @@ use Rattle.head_current.specs.Heads.{anchorOf, delivery}
 use Rattle.head_deliver.specs.Delivered.{newHead}
 use Rattle.head_ready.specs.Generations.{slotAnchor}
 use Rattle.head_step.specs.Dispatch.{dispatch}
-use Rattle.head_snapshot.specs.Views.{spareReason, spareView}
+use Rattle.head_view.specs.Views.{spareReason, spareView}
 use Rattle.head_anchor.specs.declared.AnchorSlot.{AnchorSlot}
 use Rattle.head_anchor.specs.declared.ReadAnchor.{ReadAnchor}
 use Rattle.head_count.specs.declared.Epoch.{Epoch}

@@ -14,7 +14,7 @@ use Rattle.head_report.specs.Report.{report}
 use Rattle.head_stats.specs.Stats.{stats}
 use Rattle.head_heads.specs.Heads.{heads}
 use Rattle.head_step.specs.Dispatch.{dispatch}
-use Rattle.head_snapshot.specs.Views.{viewOf}
+use Rattle.head_view.specs.Views.{viewOf}
 use Rattle.hash.specs.declared.Hash.{Hash}
 use Rattle.head_anchor.specs.declared.AnchorSlot.{AnchorSlot}
 use Rattle.head_anchor.specs.declared.ReadAnchor.{ReadAnchor}

@@ -15,7 +15,7 @@ use Rattle.head_snapshot.specs.Snapshot.{snapshot, viewed}
 use Rattle.head_claim.specs.Starts.{claimGate, claimStart}
 use Rattle.head_ready.specs.Generations.{slotAnchor}
 use Rattle.head_completion.specs.Completion.{completion}
-use Rattle.head_snapshot.specs.Views.{currentView, generationView, provisionalView, spareView, view, viewOf}
+use Rattle.head_view.specs.Views.{currentView, generationView, provisionalView, spareView, view, viewOf}
 use Rattle.hash.specs.declared.Hash.{Hash}
 use Rattle.head_anchor.specs.declared.AnchorSlot.{AnchorSlot}
 use Rattle.head_anchor.specs.declared.ReadAnchor.{ReadAnchor}

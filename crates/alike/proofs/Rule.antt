@@ -10,9 +10,9 @@ use Rattle.alike.proofs.Shown.{alike-shown, shows-enough}
 use Rattle.alike.proofs.Twins.{Twin}
 use Rattle.alike.proofs.WaiterProbes.{probe-waiters}
 use Rattle.alike.specs.Runs.{after}
-use Rattle.alike.specs.Statements.{Below, Rule, ShowsNoMore}
+use Rattle.alike.specs.Statements.{DeliveredAndEpochBelow, Rule, ShowsNoMore}
 
-twin-alike : {d₁ d₂ : Driver} → Twin d₁ d₂ → Below d₁ → Below d₂ → Alike d₁ d₂
+twin-alike : {d₁ d₂ : Driver} → Twin d₁ d₂ → DeliveredAndEpochBelow d₁ → DeliveredAndEpochBelow d₂ → Alike d₁ d₂
 twin-alike {d₁} {d₂} w b₁ b₂ =
     let t = probe-counters w in
     let n = probe-seq w in

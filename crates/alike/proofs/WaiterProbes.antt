@@ -24,7 +24,7 @@ use Rattle.head_deliver.specs.Delivered.{delivered, newHead}
 use Rattle.head_ready.specs.Generations.{isReady}
 use Rattle.head_life.specs.State.{counted}
 use Rattle.head_step.specs.Dispatch.{dispatch}
-use Rattle.head_snapshot.specs.Views.{generationView, spareView, view, viewOf}
+use Rattle.head_view.specs.Views.{generationView, spareView, view, viewOf}
 use Rattle.head_waits.specs.Calls.{abandonedView, join, preparingAt, resume, resumeAs, unowned, viewedBy, waiterAt}
 use Rattle.hash.specs.declared.Hash.{Hash}
 use Rattle.head_anchor.specs.declared.AnchorSlot.{AnchorSlot}

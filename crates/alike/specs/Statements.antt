@@ -40,15 +40,15 @@ abbrev pub SameAnswers : Driver → Driver → Type 0
 SameAnswers d₁ d₂ = (cs : List Call) → AllWritable cs → answers d₁ cs ≡ answers d₂ cs
 
 -- delivered and epoch stand below 2^64 - 1
-pub record Below (d : Driver) : Type 0 where
+pub record DeliveredAndEpochBelow (d : Driver) : Type 0 where
   pub delivered-below : d .life .stats .delivered < 0xffff_ffff_ffff_ffff
   pub epoch-below : d .life .«claim_epoch» .0 < 0xffff_ffff_ffff_ffff
 
 -- Drivers that give the same answers to every list of calls that lines can write show the same.
 abbrev pub ShowsNoMore : Type 0
-ShowsNoMore = (d₁ d₂ : Driver) → Invariant d₁ → Invariant d₂ → Below d₁ → Below d₂ → SameAnswers d₁ d₂ → canon d₁ ≡ canon d₂
+ShowsNoMore = (d₁ d₂ : Driver) → Invariant d₁ → Invariant d₂ → DeliveredAndEpochBelow d₁ → DeliveredAndEpochBelow d₂ → SameAnswers d₁ d₂ → canon d₁ ≡ canon d₂
 
 -- The rule: two drivers, each brought from a new one by calls that lines can write, show the same exactly when every further list of calls gets the same answers.
 abbrev pub Rule : Type 0
-Rule = (cs₁ cs₂ : List Call) → AllWritable cs₁ → AllWritable cs₂ → Below (after new cs₁) → Below (after new cs₂)
+Rule = (cs₁ cs₂ : List Call) → AllWritable cs₁ → AllWritable cs₂ → DeliveredAndEpochBelow (after new cs₁) → DeliveredAndEpochBelow (after new cs₂)
     → (canon (after new cs₁) ≡ canon (after new cs₂)) ↔ SameAnswers (after new cs₁) (after new cs₂)

@@ -21,7 +21,7 @@ use Rattle.value_text.proofs.Rows.{values-then}
 use Rattle.value_text.specs.Values.{valueText, valuesOn}
 use Rattle.value_text.specs.Words.{wordText}
 use Rattle.text.specs.Ascii.{ascii}
-use Rattle.text.specs.Rests.{Took, after, at, step}
+use Rattle.text.specs.Rests.{Took, after, at, afterByte}
 use Rattle.text.specs.Same.{sameText}
 use Rattle.text.specs.Words.{inWord, run}
 use Rattle.head_anchor.specs.declared.CarryOutcome.{CarryOutcome}
@@ -47,49 +47,49 @@ Reads w t a = then (ascii ")\n") (answerNamed w (at t)) ≡ got a (at [])
 -- ---- accepted
 
 ticket-back : (n : ℕ) → Fits n → Reads (ascii "ticket") (spacedText n ++ ascii ")\n") (Answer.Ticket (record { 0 = n }))
-unfolding answerNamed sameText wordText then map after step run inWord
+unfolding answerNamed sameText wordText then map after afterByte run inWord
 ticket-back n f = simp spaced-back
 
 claimed-back : (n : ℕ) → Fits n → Reads (ascii "claimed") (spacedText n ++ ascii ")\n") (Answer.Claimed (record { 0 = n }))
-unfolding answerNamed sameText wordText then map after step run inWord
+unfolding answerNamed sameText wordText then map after afterByte run inWord
 claimed-back n f = simp spaced-back
 
 done-back : Reads (ascii "done") (ascii ")\n") Answer.Done
-unfolding answerNamed sameText wordText then after step
+unfolding answerNamed sameText wordText then after afterByte
 done-back = refl
 
 settled-back : (o : CarryOutcome) → OutcomeFits o → Reads (ascii "settled") (ascii " " ++ (outcomeText o ++ ascii ")\n")) (Answer.Outcome (HeadOutcome.Settled o))
-unfolding answerNamed sameText wordText then map after step
+unfolding answerNamed sameText wordText then map after afterByte
 settled-back o f = simp (outcome-back, f)
 
 view-back : (v : HeadView) → Fits (v .handle) → ReadinessFits (v .readiness)
     → Reads (ascii "view") (ascii " " ++ (sourceText (v .source) ++ (spacedText (v .handle) ++ (ascii " " ++ (readinessText (v .readiness) ++ ascii ")\n"))))) (Answer.View v)
-unfolding answerNamed readView sameText wordText then after step run inWord
+unfolding answerNamed readView sameText wordText then after afterByte run inWord
 view-back v f g = simp (source-back, spaced-back, spaced-run, readiness-back, g)
 
 parked-back : Reads (ascii "parked") (ascii ")\n") Answer.Parked
-unfolding answerNamed sameText wordText then after step
+unfolding answerNamed sameText wordText then after afterByte
 parked-back = refl
 
 completion-back : (end : HeadCompletion) → Reads (ascii "completion") (ascii " " ++ (endText end ++ ascii ")\n")) (Answer.Completion end)
-unfolding answerNamed sameText wordText then map after step run inWord
+unfolding answerNamed sameText wordText then map after afterByte run inWord
 completion-back end = simp end-back
 
 link-line-back : (link : Link) → Reads (ascii "link") (ascii " " ++ (linkText link ++ ascii ")\n")) (Answer.Link link)
-unfolding answerNamed sameText wordText then map after step run inWord
+unfolding answerNamed sameText wordText then map after afterByte run inWord
 link-line-back link = simp link-back
 
 report-line-back : (r : LastReport) → ReportFits r → Reads (ascii "report") (ascii " " ++ (reportText r ++ ascii ")\n")) (Answer.Report r)
-unfolding answerNamed sameText wordText then map after step run inWord
+unfolding answerNamed sameText wordText then map after afterByte run inWord
 report-line-back r f = simp (report-back, f)
 
 stats-line-back : (s : HeadStats) → StatsFit s → Reads (ascii "stats") (statsText s ++ ascii ")\n") (Answer.Stats s)
-unfolding answerNamed sameText wordText then map after step run inWord
+unfolding answerNamed sameText wordText then map after afterByte run inWord
 stats-line-back s f = simp stats-back
 
 heads-back : (c i p : AnchorSlot) → SlotFits c → SlotFits i → SlotFits p
     → Reads (ascii "heads") (ascii " " ++ (slotText Page.Line c ++ (ascii " " ++ (slotText Page.Line i ++ (ascii " " ++ (slotText Page.Line p ++ ascii ")\n")))))) (Answer.Heads c i p)
-unfolding answerNamed readHeads sameText wordText then after step run inWord
+unfolding answerNamed readHeads sameText wordText then after afterByte run inWord
 heads-back c i p f g h = simp (slot-back, f, g, h)
 
 -- ---- refused
@@ -103,12 +103,12 @@ unfolding answerNamed sameText wordText readRefused
 refused-back n t a f z e = rw (spaced-back n t f z) e
 
 superseded-back : (a : ReadAnchor) → AnchorFits a → Refused 11 (ascii " " ++ (anchorText Page.Line a ++ ascii ")\n")) (Answer.Outcome (HeadOutcome.Superseded a))
-unfolding refusedBy then map after step
+unfolding refusedBy then map after afterByte
 superseded-back a f = simp anchor-back
 
 foreign-back : (list held : ReadAnchor) → AnchorFits list → AnchorFits held
     → Refused 12 (ascii " " ++ (anchorText Page.Line list ++ (ascii " " ++ (anchorText Page.Line held ++ ascii ")\n")))) (Answer.Outcome (HeadOutcome.Foreign list held))
-unfolding refusedBy readForeign then after step
+unfolding refusedBy readForeign then after afterByte
 foreign-back list held f g = simp anchor-back
 
 -- ---- lines
@@ -122,7 +122,7 @@ unfolding run inWord
 number-refused n t a f z e = named (ascii "refused") (spacedText n ++ t) refl (spaced-run n t) ∙ refused-back n t a f z e
 
 outcome-line : (o : HeadOutcome) → HeadOutcomeFits o → Line (wordText (outcomeSaid o .word)) (refusalOn (outcomeSaid o .number) (valuesOn Page.Line (outcomeSaid o .values) (ascii ")\n"))) (Answer.Outcome o)
-unfolding outcomeSaid wordText refusalOn valuesOn valueText spacedText anchorText outcomeText refusedBy then after step run inWord
+unfolding outcomeSaid wordText refusalOn valuesOn valueText spacedText anchorText outcomeText refusedBy then after afterByte run inWord
 outcome-line (HeadOutcome.Settled o) f = named (ascii "settled") (ascii " " ++ (outcomeText o ++ ascii ")\n")) refl refl ∙ settled-back o f
 outcome-line HeadOutcome.AlreadySettled f = number-refused 13 (ascii ")\n") _ (omega arith) refl refl
 outcome-line HeadOutcome.InFlight f = number-refused 14 (ascii ")\n") _ (omega arith) refl refl
@@ -137,7 +137,7 @@ stats-said s f =
     ∙ stats-line-back s f
 
 said-back : (a : Answer) → AnswerFits a → Line (wordText (said a .word)) (refusalOn (said a .number) (valuesOn Page.Line (said a .values) (ascii ")\n"))) a
-unfolding said wordText refusalOn valuesOn valueText spacedText slotText sourceText readinessText endText linkText reportText refusedBy then after step run inWord
+unfolding said wordText refusalOn valuesOn valueText spacedText slotText sourceText readinessText endText linkText reportText refusedBy then after afterByte run inWord
 said-back (Answer.Ticket n) f = named (ascii "ticket") (spacedText (n .0) ++ ascii ")\n") refl refl ∙ ticket-back (n .0) f
 said-back (Answer.Claimed e) f = named (ascii "claimed") (spacedText (e .0) ++ ascii ")\n") refl refl ∙ claimed-back (e .0) f
 said-back Answer.Done f = named (ascii "done") (ascii ")\n") refl refl ∙ done-back

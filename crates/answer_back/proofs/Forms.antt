@@ -13,7 +13,7 @@ use Rattle.value_text.specs.Words.{wordText}
 use Rattle.text.proofs.Back.{past-back, word-back}
 use Rattle.text.specs.Ascii.{ascii}
 use Rattle.text.specs.Decimals.{decimal}
-use Rattle.text.specs.Rests.{after, at, step}
+use Rattle.text.specs.Rests.{after, at, afterByte}
 use Rattle.text.specs.Words.{run}
 use Rattle.head_driver.specs.declared.Answer.{Answer}
 use Rattle.value_text.specs.declared.page.Page.{Page}
@@ -39,5 +39,5 @@ line-form a =
     ap (λ (r : List ℕ). ascii "(" ++ r) (append-assoc (wordText (s .word)) _ (ascii "\n") ∙ ap (λ (r : List ℕ). wordText (s .word) ++ r) e)
 
 pub named : (w t : List ℕ) → run w ≡ length w → run t ≡ 0 → readAnswer (at (ascii "(" ++ (w ++ t))) ≡ then (ascii ")\n") (answerNamed w (at t))
-unfolding readAnswer after step
+unfolding readAnswer after afterByte
 named w t e z = rw (word-back w t e z, past-back w t e z)

@@ -26,7 +26,7 @@ use Rattle.head_plan.specs.Plans
 use Rattle.head_settle.specs.Settles
 use Rattle.head_apply.specs.Apply
 use Rattle.head_snapshot.specs.Snapshot
-use Rattle.head_snapshot.specs.Views
+use Rattle.head_view.specs.Views
 use Rattle.head_waits.specs.Calls as WaitCalls
 use Rattle.head_completion.specs.Completion
 use Rattle.head_completion.specs.Ends
@@ -96,7 +96,7 @@ calls = tt
 
 -- words, decimals and hashes
 unfoldable words : Unit {0}
-unfolding Decimals.decimalOn Decimals.decimal Decimals.digit Decimals.more Decimals.number Digits.readOn Rests.step Rests.after Rests.wordHere Rests.says Rests.past
+unfolding Decimals.decimalOn Decimals.decimal Decimals.digit Decimals.more Decimals.number Digits.readOn Rests.afterByte Rests.after Rests.wordHere Rests.says Rests.past
     Rests.pastWord Rests.atEnd Rests.numberGot Rests.readNumber Same.sameText Words.inWord Words.run Words.word Hex.glyph Hex.hexOn Hex.hex Hex.hexText
     Hex.digitValue Hex.joinDigit Hex.hexMore Hex.hexNumber Hex.joined Hex.hexHash LineHashes.lineHashText LineHashes.lineHash HashReads.hashGot HashReads.readHash
     HashReads.readSheetHash SheetHashes.sheetHashText SheetHashes.sheetHash
@@ -106,9 +106,9 @@ words = tt
 unfoldable lines : Unit {0}
 unfolding ValueReads.orWord ValueReads.map ValueReads.then ValueReads.hashSaid ValueReads.blockHashGot ValueReads.readBlockHash ValueReads.readAnchor
     ValueReads.readSlot ValueReads.spacedNumber ValueReads.readFailure ValueReads.readSkip CallValues.spacedHash CallValues.spacedAnchor CallValues.spacedSlot
-    CallValues.spacedSkip CallLines.ends CallLines.closed CallLines.spacedTicket CallLines.spacedList CallLines.readDeliver CallLines.readClaim
-    CallLines.readRelease CallLines.readApply CallLines.readSnapshot CallLines.readWait CallLines.readResume CallLines.readCompletion CallLines.readLink
-    CallLines.readReport CallLines.readStats CallLines.readHeads CallLines.readSheet CallLines.laterNamed CallLines.callNamed CallLines.callHere CallLines.call
+    CallValues.spacedSkip CallLines.ends CallLines.closed CallLines.spacedTicket CallLines.spacedList CallLines.deliverCall CallLines.claimCall
+    CallLines.releaseCall CallLines.applyCall CallLines.snapshotCall CallLines.waitCall CallLines.resumeCall CallLines.completionCall CallLines.linkCall
+    CallLines.reportCall CallLines.statsCall CallLines.headsCall CallLines.sheetCall CallLines.laterNamed CallLines.callNamed CallLines.callHere CallLines.call
 lines = tt
 
 -- answer lines

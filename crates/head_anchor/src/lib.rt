@@ -1,8 +1,7 @@
-// Anchors, the link test, prepared lists and their outcome: what of a block decides whether its parent's values carry over.
+// Anchors: when two are equal. And the types and definitions of links, prepared lists and outcomes.
 // Its code knows nothing of a head, a counter, a waiter or a line of text; its definitions hold the words and the kinds of values that answers say.
 use hash::Hash;
 
-pub mod read_hub;
 pub mod storage_memo;
 
 // From bal_prefetch.rs.

@@ -5,7 +5,7 @@ ghost use Rattle.head_call.specs.Tests.{listRefusal, waiterRefusal};
 use crate::Call;
 use crate::InputRefusal;
 use head_anchor::PreparedBal;
-use head_anchor::read_hub::as_prepared;
+use head_carry::read_hub::as_prepared;
 
 impl InputRefusal {
     // The refusal's number, or 0 where the input is taken.

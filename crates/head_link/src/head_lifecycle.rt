@@ -4,7 +4,7 @@ ghost use Rattle.head_link.specs.Link.{link};
 use hash::Hash;
 use head_anchor::AnchorSlot;
 use head_anchor::ReadAnchor;
-use head_anchor::read_hub::classify_link;
+use head_carry::read_hub::classify_link;
 use head_driver::Answer;
 use head_driver::Driver;
 use head_driver::Reply;

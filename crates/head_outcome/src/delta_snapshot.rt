@@ -8,7 +8,7 @@ use head_anchor::BalSkip;
 use head_anchor::CarryOutcome;
 use head_anchor::Link;
 use head_anchor::ReadAnchor;
-use head_anchor::read_hub::classify_link;
+use head_carry::read_hub::classify_link;
 
 pub(crate) fn is_linked(link: Link) -> bool
     ensures { λ r. ⌜ r ≡ isLinked link ⌝ }

@@ -1,3 +1,2 @@
 -- Document 01, "Lifecycle": `snapshot`.
-pub mod Views
 pub mod Snapshot

@@ -2,7 +2,7 @@
 use Prim.Native.Nat.{ℕ}
 use Rattle.head_driver.specs.Parts.{replyOf, withLife}
 use Rattle.head_life.specs.State.{viewCounted}
-use Rattle.head_snapshot.specs.Views.{view}
+use Rattle.head_view.specs.Views.{view}
 use Rattle.head_anchor.specs.declared.ReadAnchor.{ReadAnchor}
 use Rattle.head_driver.specs.declared.Answer.{Answer}
 use Rattle.head_driver.specs.declared.Driver.{Driver}

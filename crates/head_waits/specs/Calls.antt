@@ -11,7 +11,7 @@ use Rattle.head_attempt.specs.Waiters.{slotOf}
 use Rattle.head_driver.specs.Parts.{replyOf}
 use Rattle.head_ready.specs.Generations.{isReady}
 use Rattle.head_snapshot.specs.Snapshot.{viewed}
-use Rattle.head_snapshot.specs.Views.{view, viewOf}
+use Rattle.head_view.specs.Views.{view, viewOf}
 use Rattle.head_anchor.specs.declared.ReadAnchor.{ReadAnchor}
 use Rattle.head_attempt.specs.declared.Waiter.{Waiter}
 use Rattle.head_attempt.specs.declared.WaiterSlot.{WaiterSlot}

@@ -21,8 +21,8 @@ use head_ready::HeadCold;
 use head_ready::HeadReadiness;
 use head_ready::HeadView;
 use head_ready::Source;
-use head_snapshot::head_lifecycle::lookup;
 use head_snapshot::head_lifecycle::viewed;
+use head_view::head_lifecycle::lookup;
 
 pub(crate) fn unowned_reason(reason: HeadCold) -> HeadCold
     ensures { λ r. ⌜ r ≡ unownedReason reason ⌝ }

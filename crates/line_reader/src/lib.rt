@@ -1,13 +1,9 @@
 // A reader that borrows a line and counts the bytes taken. Its functions are thin: each takes it apart and leaves the work to a
-// function over the line and a place. Whoever has no reader calls `word_from`, whose parameters are plain.
+// function over the line and a place. Whoever has no reader calls `line_word::word_from`, whose parameters are plain.
 // Knows nothing of keywords, numbers or calls.
 ghost use mathlib.Core.Path.{_≡_};
 ghost use lib.ListN.{drop};
 ghost use Rattle.line_reader.specs.Taken.{wordNext, tookWord};
-ghost use Rattle.text.specs.Places.{here};
-ghost use Rattle.text.specs.Rests.{wordHere};
-ghost use Rattle.text.specs.Words.{word};
-use text::place::Place;
 use text::word::next_word;
 
 pub struct LineReader<'a> {
@@ -52,22 +48,4 @@ pub fn left<'a>(r: LineReader<'a>) -> &'a [u8]
     ensures { λ s. ⌜ now s ≡ drop (r .entry .taken) (now (r .entry .line)) ⌝ }
 {
     rest_from(r.line, r.taken)
-}
-
-// The word that starts at a place, read through a reader.
-pub(crate) fn word_at(line: &[u8], at: usize) -> &[u8]
-    ensures { λ r. ⌜ now r ≡ word (drop at (now (line .entry))) ⌝ }
-{
-    let mut r = reader_of(line, at);
-    take_word(&mut r)
-}
-
-// The same at a place of a line where reading may have stopped, and then no word stands there.
-pub fn word_from(line: &[u8], from: Place) -> &[u8]
-    ensures { λ r. ⌜ now r ≡ wordHere (here (now (line .entry)) from) ⌝ }
-{
-    let Place::At(at) = from else {
-        return &line[0..0];
-    };
-    word_at(line, at)
 }

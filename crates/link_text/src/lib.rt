@@ -1,8 +1,8 @@
-// A link as text, into a lent buffer: what is wrong with it, and how it stands.
+// What is wrong with a link, as text into a lent buffer.
 // Knows nothing of what holds a link, nor of an answer's line.
 ghost use Prim.Native.Nat.{_+_, _≤_};
 ghost use lib.ListN.{length};
-ghost use Rattle.value_text.specs.Texts.{faultText, linkText};
+ghost use Rattle.value_text.specs.Texts.{faultText};
 ghost use Rattle.text.specs.Writes.{Wrote};
 use head_anchor::Link;
 use text_put::put::put;
@@ -19,17 +19,5 @@ pub fn put_fault(buf: &mut [u8], at: usize, link: Link) -> usize
         Link::NotConsecutive => put(buf, at, b"not-consecutive"),
         Link::HashUnknown => put(buf, at, b"hash-unknown"),
         Link::HashMismatch => put(buf, at, b"hash-mismatch"),
-    }
-}
-
-// Puts how a link stands: `linked`, or what is wrong with it.
-pub fn put_link_word(buf: &mut [u8], at: usize, link: Link) -> usize
-    requires { ⌜ at + 15 ≤ length (now buf) ⌝ }
-    ensures { λ r. ⌜ Wrote (now (buf .entry)) (now (buf .exit)) at r (linkText link) ⌝ }
-    ensures { λ r. ⌜ r ≤ at + 15 ⌝ }
-{
-    match link {
-        Link::Linked => put(buf, at, b"linked"),
-        _ => put_fault(buf, at, link),
     }
 }

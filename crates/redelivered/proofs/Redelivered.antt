@@ -12,7 +12,7 @@ use Rattle.head_life.specs.State.{counted}
 use Rattle.head_step.specs.Dispatch.{dispatch}
 use Rattle.head_call.specs.Inputs.{inputRefusal}
 use Rattle.head_step.specs.Steps.{step}
-use Rattle.head_snapshot.specs.Views.{generationView, view, viewOf}
+use Rattle.head_view.specs.Views.{generationView, view, viewOf}
 use Rattle.hash.specs.declared.Hash.{Hash}
 use Rattle.head_anchor.specs.declared.ReadAnchor.{ReadAnchor}
 use Rattle.head_deliver.specs.declared.head_lifecycle.Repeat.{Repeat}

@@ -2,7 +2,7 @@
 use Prim.Native.Nat.{ℕ}
 use mathlib.Core.Path.{_≡_}
 use Rattle.head_step.specs.Steps.{step}
-use Rattle.head_snapshot.specs.Views.{viewOf}
+use Rattle.head_view.specs.Views.{viewOf}
 use Rattle.hash.specs.declared.Hash.{Hash}
 use Rattle.head_driver.specs.declared.Answer.{Answer}
 use Rattle.head_driver.specs.declared.Driver.{Driver}

@@ -30,7 +30,7 @@ use Rattle.head_link.specs.Link.{link}
 use Rattle.head_step.proofs.Asked.{asked}
 use Rattle.head_step.specs.Dispatch.{dispatch}
 use Rattle.head_step.specs.Steps.{step}
-use Rattle.head_snapshot.specs.Views.{currentView, generationView, provisionalView, spareReason, spareView, view}
+use Rattle.head_view.specs.Views.{currentView, generationView, provisionalView, spareReason, spareView, view}
 use Rattle.head_waits.specs.Calls.{abandonedView, join, preparingAt, resume, resumeAs, unowned, unownedReadiness, unownedReason, viewedBy, wait, waitAs, waiterAt}
 use Rattle.head_ready.specs.Ranges.{ColdFits, GenerationSlotFits, ReadinessFits}
 use Rattle.hash.specs.Ranges.{Fits}

@@ -16,7 +16,7 @@ use Rattle.value_text.specs.Values.{valueText}
 use Rattle.value_text.specs.Words.{wordText}
 use Rattle.text.proofs.Back.{past-back, says-back}
 use Rattle.text.specs.Ascii.{ascii}
-use Rattle.text.specs.Rests.{after, at, says, step}
+use Rattle.text.specs.Rests.{after, at, says, afterByte}
 use Rattle.text.specs.Same.{sameText}
 use Rattle.text.specs.Words.{inWord, run}
 use Rattle.head_anchor.specs.declared.BalSkip.{BalSkip}
@@ -91,11 +91,11 @@ module _ (link : Link) (skip : BalSkip) (t : List ℕ) where
   cold-form = simp append-assoc
 
   cold-back : SkipFits skip → readCold (at (coldText link skip ++ t)) ≡ got (record { link = link; skip = skip }) (at t)
-  unfolding readCold after step run inWord
+  unfolding readCold after afterByte run inWord
   cold-back f = rw cold-form (simp (fault-back, skip-back))
 
   cold-says : says (wordText Word.carried) (after (ascii "(") (at (coldText link skip ++ t))) ≡ false
-  unfolding after step wordText sameText run inWord
+  unfolding after afterByte wordText sameText run inWord
   cold-says = rw cold-form (says-back (ascii "cold") (ascii " " ++ (faultText link ++ (ascii " " ++ (skipText skip ++ (ascii ")" ++ t))))) refl refl (ascii "carried"))
 
   cold-outcome : SkipFits skip → readOutcome (at (coldText link skip ++ t)) ≡ got (CarryOutcome.Cold link skip) (at t)
@@ -114,7 +114,7 @@ module _ (n : ℕ) (t : List ℕ) where
   carried-form = simp append-assoc
 
   carried-back : Fits n → readOutcome (at (outcomeText (CarryOutcome.Carried n) ++ t)) ≡ got (CarryOutcome.Carried n) (at t)
-  unfolding readOutcome wordText sameText then map after step run inWord
+  unfolding readOutcome wordText sameText then map after afterByte run inWord
   carried-back f = rw carried-form (simp (says-back (ascii "carried") (spacedText n ++ (ascii ")" ++ t)) refl (spaced-run n (ascii ")" ++ t)), past-back (ascii "carried") (spacedText n ++ (ascii ")" ++ t)) refl (spaced-run n (ascii ")" ++ t)), spaced-back))
 
 pub outcome-back : (o : CarryOutcome) (t : List ℕ) → OutcomeFits o → readOutcome (at (outcomeText o ++ t)) ≡ got o (at t)
@@ -128,7 +128,7 @@ module _ (o : CarryOutcome) (n : ℕ) (t : List ℕ) where
   made-form = simp append-assoc
 
   made-back : OutcomeFits o → Fits n → readReport (at (reportText (LastReport.Made o n) ++ t)) ≡ got (LastReport.Made o n) (at t)
-  unfolding readReport readMade wordText after step run inWord
+  unfolding readReport readMade wordText after afterByte run inWord
   made-back f g = rw made-form (open-miss _ _ _ _ _ ∙ simp (outcome-back, spaced-back, f))
 
 pub report-back : (report : LastReport) (t : List ℕ) → ReportFits report → run t ≡ 0 → readReport (at (reportText report ++ t)) ≡ got report (at t)

@@ -6,28 +6,28 @@ use mathlib.Core.List.{List}
 use Rattle.text.specs.Ascii.{ascii}
 use Rattle.text.specs.Same.{sameText}
 use Rattle.text.specs.Rests.{Rest}
-use Rattle.script_call.specs.Calls.{readDeliver, readClaim, readRelease, readApply, readSnapshot, readWait, readResume, readCompletion, readLink, readReport, readStats, readHeads, readSheet, laterNamed, callNamed}
+use Rattle.script_call.specs.Calls.{deliverCall, claimCall, releaseCall, applyCall, snapshotCall, waitCall, resumeCall, completionCall, linkCall, reportCall, statsCall, headsCall, sheetCall, laterNamed, callNamed}
 use Rattle.script_call.specs.Dispatch.{viewNamed, bareNamed}
 use Rattle.script_call.specs.declared.LineCall.{LineCall}
 
 module _ (w : List ℕ) (r : Rest) where
   module _ (t₁ : Bool) (e₁ : t₁ ≡ sameText w (ascii "deliver")) where
-    pub deliver-named : (z : LineCall) → t₁ ≡ true → z ≡ readDeliver r → z ≡ callNamed w r
+    pub deliver-named : (z : LineCall) → t₁ ≡ true → z ≡ deliverCall r → z ≡ callNamed w r
     unfolding callNamed
     deliver-named z f h = rw (← e₁, f) h
 
     module _ (f₁ : t₁ ≡ false) (t₂ : Bool) (e₂ : t₂ ≡ sameText w (ascii "claim")) where
-      pub claim-named : (z : LineCall) → t₂ ≡ true → z ≡ readClaim r → z ≡ callNamed w r
+      pub claim-named : (z : LineCall) → t₂ ≡ true → z ≡ claimCall r → z ≡ callNamed w r
       unfolding callNamed
       claim-named z f h = rw (← e₁, f₁, ← e₂, f) h
 
       module _ (f₂ : t₂ ≡ false) (t₃ : Bool) (e₃ : t₃ ≡ sameText w (ascii "release")) where
-        pub release-named : (z : LineCall) → t₃ ≡ true → z ≡ readRelease r → z ≡ callNamed w r
+        pub release-named : (z : LineCall) → t₃ ≡ true → z ≡ releaseCall r → z ≡ callNamed w r
         unfolding callNamed
         release-named z f h = rw (← e₁, f₁, ← e₂, f₂, ← e₃, f) h
 
         module _ (f₃ : t₃ ≡ false) (t₄ : Bool) (e₄ : t₄ ≡ sameText w (ascii "apply")) where
-          pub apply-named : (z : LineCall) → t₄ ≡ true → z ≡ readApply r → z ≡ callNamed w r
+          pub apply-named : (z : LineCall) → t₄ ≡ true → z ≡ applyCall r → z ≡ callNamed w r
           unfolding callNamed
           apply-named z f h = rw (← e₁, f₁, ← e₂, f₂, ← e₃, f₃, ← e₄, f) h
 
@@ -37,17 +37,17 @@ module _ (w : List ℕ) (r : Rest) where
 
 module _ (w : List ℕ) (r : Rest) where
   module _ (t₁ : Bool) (e₁ : t₁ ≡ sameText w (ascii "snapshot")) where
-    pub snapshot-named : (z : LineCall) → t₁ ≡ true → z ≡ readSnapshot r → z ≡ viewNamed w r
+    pub snapshot-named : (z : LineCall) → t₁ ≡ true → z ≡ snapshotCall r → z ≡ viewNamed w r
     unfolding viewNamed
     snapshot-named z f h = rw (← e₁, f) h
 
     module _ (f₁ : t₁ ≡ false) (t₂ : Bool) (e₂ : t₂ ≡ sameText w (ascii "wait")) where
-      pub wait-named : (z : LineCall) → t₂ ≡ true → z ≡ readWait r → z ≡ viewNamed w r
+      pub wait-named : (z : LineCall) → t₂ ≡ true → z ≡ waitCall r → z ≡ viewNamed w r
       unfolding viewNamed
       wait-named z f h = rw (← e₁, f₁, ← e₂, f) h
 
       module _ (f₂ : t₂ ≡ false) (t₃ : Bool) (e₃ : t₃ ≡ sameText w (ascii "resume")) where
-        pub resume-named : (z : LineCall) → t₃ ≡ true → z ≡ readResume r → z ≡ viewNamed w r
+        pub resume-named : (z : LineCall) → t₃ ≡ true → z ≡ resumeCall r → z ≡ viewNamed w r
         unfolding viewNamed
         resume-named z f h = rw (← e₁, f₁, ← e₂, f₂, ← e₃, f) h
 
@@ -57,12 +57,12 @@ module _ (w : List ℕ) (r : Rest) where
 
 module _ (w : List ℕ) (r : Rest) where
   module _ (t₁ : Bool) (e₁ : t₁ ≡ sameText w (ascii "completion")) where
-    pub completion-named : (z : LineCall) → t₁ ≡ true → z ≡ readCompletion r → z ≡ laterNamed w r
+    pub completion-named : (z : LineCall) → t₁ ≡ true → z ≡ completionCall r → z ≡ laterNamed w r
     unfolding laterNamed
     completion-named z f h = rw (← e₁, f) h
 
     module _ (f₁ : t₁ ≡ false) (t₂ : Bool) (e₂ : t₂ ≡ sameText w (ascii "link")) where
-      pub link-named : (z : LineCall) → t₂ ≡ true → z ≡ readLink r → z ≡ laterNamed w r
+      pub link-named : (z : LineCall) → t₂ ≡ true → z ≡ linkCall r → z ≡ laterNamed w r
       unfolding laterNamed
       link-named z f h = rw (← e₁, f₁, ← e₂, f) h
 
@@ -72,22 +72,22 @@ module _ (w : List ℕ) (r : Rest) where
 
 module _ (w : List ℕ) (r : Rest) where
   module _ (t₁ : Bool) (e₁ : t₁ ≡ sameText w (ascii "report")) where
-    pub report-named : (z : LineCall) → t₁ ≡ true → z ≡ readReport r → z ≡ bareNamed w r
+    pub report-named : (z : LineCall) → t₁ ≡ true → z ≡ reportCall r → z ≡ bareNamed w r
     unfolding bareNamed
     report-named z f h = rw (← e₁, f) h
 
     module _ (f₁ : t₁ ≡ false) (t₂ : Bool) (e₂ : t₂ ≡ sameText w (ascii "stats")) where
-      pub stats-named : (z : LineCall) → t₂ ≡ true → z ≡ readStats r → z ≡ bareNamed w r
+      pub stats-named : (z : LineCall) → t₂ ≡ true → z ≡ statsCall r → z ≡ bareNamed w r
       unfolding bareNamed
       stats-named z f h = rw (← e₁, f₁, ← e₂, f) h
 
       module _ (f₂ : t₂ ≡ false) (t₃ : Bool) (e₃ : t₃ ≡ sameText w (ascii "heads")) where
-        pub heads-named : (z : LineCall) → t₃ ≡ true → z ≡ readHeads r → z ≡ bareNamed w r
+        pub heads-named : (z : LineCall) → t₃ ≡ true → z ≡ headsCall r → z ≡ bareNamed w r
         unfolding bareNamed
         heads-named z f h = rw (← e₁, f₁, ← e₂, f₂, ← e₃, f) h
 
         module _ (f₃ : t₃ ≡ false) (t₄ : Bool) (e₄ : t₄ ≡ sameText w (ascii "sheet")) where
-          pub sheet-named : (z : LineCall) → t₄ ≡ true → z ≡ readSheet r → z ≡ bareNamed w r
+          pub sheet-named : (z : LineCall) → t₄ ≡ true → z ≡ sheetCall r → z ≡ bareNamed w r
           unfolding bareNamed
           sheet-named z f h = rw (← e₁, f₁, ← e₂, f₂, ← e₃, f₃, ← e₄, f) h
 

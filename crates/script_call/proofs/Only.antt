@@ -16,7 +16,7 @@ use Rattle.text.specs.Rests.{Rest, at, stopped, after, wordHere, pastWord, atEn
 use Rattle.text.proofs.Same.{same-eq}
 use Rattle.script_call.proofs.ValuesRanges.{chosen}
 use Rattle.script_call.proofs.ValuesOnly.{after-only, past-only, spaced-number-only, spaced-hash-only, spaced-anchor-only, spaced-slot-only, spaced-skip-only}
-use Rattle.script_call.specs.Calls.{ends, closed, spacedTicket, spacedList, readDeliver, readClaim, readRelease, readApply, readSnapshot, readWait, readResume, readCompletion, readLink, readReport, readStats, readHeads, readSheet, callNamed, laterNamed, callHere, call}
+use Rattle.script_call.specs.Calls.{ends, closed, spacedTicket, spacedList, deliverCall, claimCall, releaseCall, applyCall, snapshotCall, waitCall, resumeCall, completionCall, linkCall, reportCall, statsCall, headsCall, sheetCall, callNamed, laterNamed, callHere, call}
 use Rattle.script_call.specs.Texts.{callText, sheetCallText}
 use Rattle.head_call.specs.Ranges.{Writable}
 use Rattle.script_call.specs.declared.LineCall.{LineCall}
@@ -59,59 +59,59 @@ module _ (r : Rest) where
 
   -- ---- each call
 
-  deliver-own : Own (ascii "deliver") r (readDeliver r)
-  unfolding readDeliver callText
+  deliver-own : Own (ascii "deliver") r (deliverCall r)
+  unfolding deliverCall callText
   deliver-own = closed-own _ _ _ (λ e. record { rest = _; is = spaced-anchor-only _ _ (spaced-hash-only _ _ (spaced-number-only _ _ e)); text = refl })
 
-  claim-own : Own (ascii "claim") r (readClaim r)
-  unfolding readClaim spacedTicket callText
+  claim-own : Own (ascii "claim") r (claimCall r)
+  unfolding claimCall spacedTicket callText
   claim-own = closed-own _ _ _ (λ e. record { rest = _; is = spaced-anchor-only _ _ (spaced-number-only _ _ e); text = refl })
 
-  release-own : Own (ascii "release") r (readRelease r)
-  unfolding readRelease callText
+  release-own : Own (ascii "release") r (releaseCall r)
+  unfolding releaseCall callText
   release-own = closed-own _ _ _ (λ e. record { rest = _; is = spaced-number-only _ _ (spaced-number-only _ _ e); text = refl })
 
-  apply-own : Own (ascii "apply") r (readApply r)
-  unfolding readApply spacedTicket spacedList callText
+  apply-own : Own (ascii "apply") r (applyCall r)
+  unfolding applyCall spacedTicket spacedList callText
   apply-own =
       closed-own _ _ _ (λ e.
       let h = spaced-number-only _ _ (spaced-number-only _ _ (spaced-number-only _ _ e)) in
       record { rest = _; is = spaced-anchor-only _ _ (spaced-number-only _ _ (spaced-anchor-only _ _ (spaced-skip-only _ _ h))); text = refl })
 
-  snapshot-own : Own (ascii "snapshot") r (readSnapshot r)
-  unfolding readSnapshot callText
+  snapshot-own : Own (ascii "snapshot") r (snapshotCall r)
+  unfolding snapshotCall callText
   snapshot-own = closed-own _ _ _ (λ e. record { rest = _; is = spaced-anchor-only _ _ (spaced-number-only _ _ e); text = refl })
 
-  wait-own : Own (ascii "wait") r (readWait r)
-  unfolding readWait callText
+  wait-own : Own (ascii "wait") r (waitCall r)
+  unfolding waitCall callText
   wait-own = closed-own _ _ _ (λ e. record { rest = _; is = spaced-number-only _ _ (spaced-anchor-only _ _ (spaced-number-only _ _ e)); text = refl })
 
-  resume-own : Own (ascii "resume") r (readResume r)
-  unfolding readResume callText
+  resume-own : Own (ascii "resume") r (resumeCall r)
+  unfolding resumeCall callText
   resume-own = closed-own _ _ _ (λ e. record { rest = _; is = spaced-number-only _ _ (spaced-number-only _ _ e); text = refl })
 
-  completion-own : Own (ascii "completion") r (readCompletion r)
-  unfolding readCompletion callText
+  completion-own : Own (ascii "completion") r (completionCall r)
+  unfolding completionCall callText
   completion-own = closed-own _ _ _ (λ e. record { rest = _; is = spaced-anchor-only _ _ e; text = refl })
 
-  link-own : Own (ascii "link") r (readLink r)
-  unfolding readLink callText
+  link-own : Own (ascii "link") r (linkCall r)
+  unfolding linkCall callText
   link-own = closed-own _ _ _ (λ e. record { rest = _; is = spaced-slot-only _ _ (spaced-anchor-only _ _ (spaced-hash-only _ _ e)); text = refl })
 
-  report-own : Own (ascii "report") r (readReport r)
-  unfolding readReport callText
+  report-own : Own (ascii "report") r (reportCall r)
+  unfolding reportCall callText
   report-own = closed-own _ _ Call.Report (λ e. record { rest = _; is = e; text = refl })
 
-  stats-own : Own (ascii "stats") r (readStats r)
-  unfolding readStats callText
+  stats-own : Own (ascii "stats") r (statsCall r)
+  unfolding statsCall callText
   stats-own = closed-own _ _ Call.Stats (λ e. record { rest = _; is = e; text = refl })
 
-  heads-own : Own (ascii "heads") r (readHeads r)
-  unfolding readHeads callText
+  heads-own : Own (ascii "heads") r (headsCall r)
+  unfolding headsCall callText
   heads-own = closed-own _ _ Call.Heads (λ e. record { rest = _; is = e; text = refl })
 
-  sheet-own : Own (ascii "sheet") r (readSheet r)
-  unfolding readSheet sheetCallText
+  sheet-own : Own (ascii "sheet") r (sheetCall r)
+  unfolding sheetCall sheetCallText
   sheet-own = go (ends r) refl
     where
       go : (b : Bool) → ends r ≡ b → Own (ascii "sheet") r (if b LineCall.Sheet LineCall.NoCall)

@@ -8,7 +8,7 @@ use lib.ListN.{length}
 use borrow.Author.Tests.{ne-eqb, lt-ltb, le-ltb}
 use Rattle.head_call.specs.declared.Call.{Call}
 use Rattle.text.specs.Ascii.{ascii}
-use Rattle.text.specs.Rests.{Rest, at, step, after, wordHere, past, pastWord, atEnd}
+use Rattle.text.specs.Rests.{Rest, at, afterByte, after, wordHere, past, pastWord, atEnd}
 use Rattle.text.specs.Same.{sameText}
 use Rattle.text.specs.Places.{here, Reads}
 use Rattle.text.specs.declared.decimal.NumberFrom.{NumberFrom}
@@ -19,7 +19,7 @@ use Rattle.script_call.specs.declared.anchor.AnchorFrom.{AnchorFrom}
 use Rattle.script_call.specs.declared.anchor.SlotFrom.{SlotFrom}
 use Rattle.script_call.specs.declared.skip.SkipFrom.{SkipFrom}
 use Rattle.script_call.specs.declared.spaced.HashFrom.{HashFrom}
-use Rattle.script_call.specs.Calls.{ends, closed, spacedTicket, spacedList, readDeliver, readClaim, readRelease, readApply, readSnapshot, readWait, readResume, readCompletion, readLink, callNamed, laterNamed, callHere, call}
+use Rattle.script_call.specs.Calls.{ends, closed, spacedTicket, spacedList, deliverCall, claimCall, releaseCall, applyCall, snapshotCall, waitCall, resumeCall, completionCall, linkCall, callNamed, laterNamed, callHere, call}
 use Rattle.script_call.specs.declared.LineCall.{LineCall}
 use Rattle.script_call.specs.declared.ListFrom.{ListFrom}
 use Rattle.script_call.specs.declared.TicketFrom.{TicketFrom}
@@ -41,46 +41,46 @@ module _ (l : List ℕ) (r : Rest) where
 
   -- ---- each call: its values in a row, and the end
   module _ (z : LineCall) where
-    pub deliver-is : (a : AnchorFrom) (p : HashFrom) (h : NumberFrom) → Reads l (a .value) (a .next) (spacedAnchor r) → Reads l (p .value) (p .next) (spacedHash (here l (a .next))) → Reads l (h .value) (h .next) (spacedNumber (here l (p .next))) → z ≡ closed (here l (h .next)) (Call.Deliver (a .value) (p .value) (h .value)) → z ≡ readDeliver r
-    unfolding readDeliver
+    pub deliver-is : (a : AnchorFrom) (p : HashFrom) (h : NumberFrom) → Reads l (a .value) (a .next) (spacedAnchor r) → Reads l (p .value) (p .next) (spacedHash (here l (a .next))) → Reads l (h .value) (h .next) (spacedNumber (here l (p .next))) → z ≡ closed (here l (h .next)) (Call.Deliver (a .value) (p .value) (h .value)) → z ≡ deliverCall r
+    unfolding deliverCall
     deliver-is a p h e f g k = rw (← e .rest, ← f .rest, ← g .rest, ← e .is, ← f .is, ← g .is) k
 
-    pub claim-is : (t : TicketFrom) → Reads l (t .value) (t .next) (spacedTicket r) → z ≡ closed (here l (t .next)) (Call.Claim (t .value)) → z ≡ readClaim r
-    unfolding readClaim
+    pub claim-is : (t : TicketFrom) → Reads l (t .value) (t .next) (spacedTicket r) → z ≡ closed (here l (t .next)) (Call.Claim (t .value)) → z ≡ claimCall r
+    unfolding claimCall
     claim-is t e k = rw (← e .rest, ← e .is) k
 
-    pub release-is : (n m : NumberFrom) → Reads l (n .value) (n .next) (spacedNumber r) → Reads l (m .value) (m .next) (spacedNumber (here l (n .next))) → z ≡ closed (here l (m .next)) (Call.Release (record { seq = record { 0 = n .value }; epoch = record { 0 = m .value } })) → z ≡ readRelease r
-    unfolding readRelease
+    pub release-is : (n m : NumberFrom) → Reads l (n .value) (n .next) (spacedNumber r) → Reads l (m .value) (m .next) (spacedNumber (here l (n .next))) → z ≡ closed (here l (m .next)) (Call.Release (record { seq = record { 0 = n .value }; epoch = record { 0 = m .value } })) → z ≡ releaseCall r
+    unfolding releaseCall
     release-is n m e f k = rw (← e .rest, ← f .rest, ← e .is, ← f .is) k
 
-    pub apply-is : (t : TicketFrom) (b : ListFrom) (h c m : NumberFrom) → Reads l (t .value) (t .next) (spacedTicket r) → Reads l (b .value) (b .next) (spacedList (here l (t .next))) → Reads l (h .value) (h .next) (spacedNumber (here l (b .next))) → Reads l (c .value) (c .next) (spacedNumber (here l (h .next))) → Reads l (m .value) (m .next) (spacedNumber (here l (c .next))) → z ≡ closed (here l (m .next)) (Call.Apply (t .value) (b .value) (h .value) (c .value) (m .value)) → z ≡ readApply r
-    unfolding readApply
+    pub apply-is : (t : TicketFrom) (b : ListFrom) (h c m : NumberFrom) → Reads l (t .value) (t .next) (spacedTicket r) → Reads l (b .value) (b .next) (spacedList (here l (t .next))) → Reads l (h .value) (h .next) (spacedNumber (here l (b .next))) → Reads l (c .value) (c .next) (spacedNumber (here l (h .next))) → Reads l (m .value) (m .next) (spacedNumber (here l (c .next))) → z ≡ closed (here l (m .next)) (Call.Apply (t .value) (b .value) (h .value) (c .value) (m .value)) → z ≡ applyCall r
+    unfolding applyCall
     apply-is t b h c m e₁ e₂ e₃ e₄ e₅ k = rw (← e₁ .rest, ← e₂ .rest, ← e₃ .rest, ← e₄ .rest, ← e₅ .rest, ← e₁ .is, ← e₂ .is, ← e₃ .is, ← e₄ .is, ← e₅ .is) k
 
-    pub snapshot-is : (a : AnchorFrom) (h : NumberFrom) → Reads l (a .value) (a .next) (spacedAnchor r) → Reads l (h .value) (h .next) (spacedNumber (here l (a .next))) → z ≡ closed (here l (h .next)) (Call.Snapshot (a .value) (h .value)) → z ≡ readSnapshot r
-    unfolding readSnapshot
+    pub snapshot-is : (a : AnchorFrom) (h : NumberFrom) → Reads l (a .value) (a .next) (spacedAnchor r) → Reads l (h .value) (h .next) (spacedNumber (here l (a .next))) → z ≡ closed (here l (h .next)) (Call.Snapshot (a .value) (h .value)) → z ≡ snapshotCall r
+    unfolding snapshotCall
     snapshot-is a h e f k = rw (← e .rest, ← f .rest, ← e .is, ← f .is) k
 
-    pub wait-is : (n : NumberFrom) (a : AnchorFrom) (h : NumberFrom) → Reads l (n .value) (n .next) (spacedNumber r) → Reads l (a .value) (a .next) (spacedAnchor (here l (n .next))) → Reads l (h .value) (h .next) (spacedNumber (here l (a .next))) → z ≡ closed (here l (h .next)) (Call.Wait (n .value) (a .value) (h .value)) → z ≡ readWait r
-    unfolding readWait
+    pub wait-is : (n : NumberFrom) (a : AnchorFrom) (h : NumberFrom) → Reads l (n .value) (n .next) (spacedNumber r) → Reads l (a .value) (a .next) (spacedAnchor (here l (n .next))) → Reads l (h .value) (h .next) (spacedNumber (here l (a .next))) → z ≡ closed (here l (h .next)) (Call.Wait (n .value) (a .value) (h .value)) → z ≡ waitCall r
+    unfolding waitCall
     wait-is n a h e f g k = rw (← e .rest, ← f .rest, ← g .rest, ← e .is, ← f .is, ← g .is) k
 
-    pub resume-is : (n h : NumberFrom) → Reads l (n .value) (n .next) (spacedNumber r) → Reads l (h .value) (h .next) (spacedNumber (here l (n .next))) → z ≡ closed (here l (h .next)) (Call.Resume (n .value) (h .value)) → z ≡ readResume r
-    unfolding readResume
+    pub resume-is : (n h : NumberFrom) → Reads l (n .value) (n .next) (spacedNumber r) → Reads l (h .value) (h .next) (spacedNumber (here l (n .next))) → z ≡ closed (here l (h .next)) (Call.Resume (n .value) (h .value)) → z ≡ resumeCall r
+    unfolding resumeCall
     resume-is n h e f k = rw (← e .rest, ← f .rest, ← e .is, ← f .is) k
 
-    pub completion-is : (a : AnchorFrom) → Reads l (a .value) (a .next) (spacedAnchor r) → z ≡ closed (here l (a .next)) (Call.Completion (a .value)) → z ≡ readCompletion r
-    unfolding readCompletion
+    pub completion-is : (a : AnchorFrom) → Reads l (a .value) (a .next) (spacedAnchor r) → z ≡ closed (here l (a .next)) (Call.Completion (a .value)) → z ≡ completionCall r
+    unfolding completionCall
     completion-is a e k = rw (← e .rest, ← e .is) k
 
-    pub link-is : (s : SlotFrom) (a : AnchorFrom) (p : HashFrom) → Reads l (s .value) (s .next) (spacedSlot r) → Reads l (a .value) (a .next) (spacedAnchor (here l (s .next))) → Reads l (p .value) (p .next) (spacedHash (here l (a .next))) → z ≡ closed (here l (p .next)) (Call.Link (s .value) (a .value) (p .value)) → z ≡ readLink r
-    unfolding readLink
+    pub link-is : (s : SlotFrom) (a : AnchorFrom) (p : HashFrom) → Reads l (s .value) (s .next) (spacedSlot r) → Reads l (a .value) (a .next) (spacedAnchor (here l (s .next))) → Reads l (p .value) (p .next) (spacedHash (here l (a .next))) → z ≡ closed (here l (p .next)) (Call.Link (s .value) (a .value) (p .value)) → z ≡ linkCall r
+    unfolding linkCall
     link-is s a p e f g k = rw (← e .rest, ← f .rest, ← g .rest, ← e .is, ← f .is, ← g .is) k
 
 -- ---- a whole line
 
 line-here : (l : List ℕ) → length l ≤ 512 → callHere (after (ascii "(") (at l)) ≡ call l
-unfolding call callHere after step wordHere pastWord past callNamed laterNamed sameText
+unfolding call callHere after afterByte wordHere pastWord past callNamed laterNamed sameText
 line-here [] h = refl
 line-here (b ∷ s) h = let n = length (b ∷ s) in rw (ne-eqb n 0 (λ e. omega arith), le-ltb 512 n h)
 

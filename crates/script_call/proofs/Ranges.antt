@@ -10,7 +10,7 @@ use Rattle.text.specs.Ascii.{ascii}
 use Rattle.text.specs.Same.{sameText}
 use Rattle.text.specs.Rests.{Rest, at, after, wordHere, pastWord}
 use Rattle.script_call.proofs.ValuesRanges.{chosen, spaced-number-range, spaced-hash-range, spaced-anchor-range, spaced-slot-range, spaced-skip-range}
-use Rattle.script_call.specs.Calls.{ends, closed, spacedTicket, spacedList, readDeliver, readClaim, readRelease, readApply, readSnapshot, readWait, readResume, readCompletion, readLink, readReport, readStats, readHeads, readSheet, callNamed, laterNamed, callHere, call}
+use Rattle.script_call.specs.Calls.{ends, closed, spacedTicket, spacedList, deliverCall, claimCall, releaseCall, applyCall, snapshotCall, waitCall, resumeCall, completionCall, linkCall, reportCall, statsCall, headsCall, sheetCall, callNamed, laterNamed, callHere, call}
 use Rattle.head_call.specs.Ranges.{Writable}
 use Rattle.script_call.specs.Ranges.{LineWritable}
 use Rattle.script_call.specs.declared.LineCall.{LineCall}
@@ -23,7 +23,7 @@ unfolding closed
 closed-range r c f = either (ends r) _ _ f tt
 
 later-range : (w : List ℕ) (r : Rest) → LineWritable (laterNamed w r)
-unfolding laterNamed readCompletion readLink readReport readStats readHeads readSheet
+unfolding laterNamed completionCall linkCall reportCall statsCall headsCall sheetCall
 later-range w r =
     either (sameText w (ascii "completion")) _ _ (closed-range _ _ (spaced-anchor-range _))
     (either (sameText w (ascii "link")) _ _ (closed-range _ _ (spaced-slot-range _, spaced-anchor-range _, spaced-hash-range _))
@@ -34,7 +34,7 @@ later-range w r =
     tt)))))
 
 named-range : (w : List ℕ) (r : Rest) → LineWritable (callNamed w r)
-unfolding callNamed spacedTicket spacedList readDeliver readClaim readRelease readApply readSnapshot readWait readResume
+unfolding callNamed spacedTicket spacedList deliverCall claimCall releaseCall applyCall snapshotCall waitCall resumeCall
 named-range w r =
     either (sameText w (ascii "deliver")) _ _ (closed-range _ _ (spaced-anchor-range _, spaced-hash-range _, spaced-number-range _))
     (either (sameText w (ascii "claim")) _ _ (closed-range _ _ (spaced-anchor-range _, spaced-number-range _))

@@ -8,7 +8,7 @@ use Rattle.head_anchor.specs.declared.AnchorSlot.{AnchorSlot}
 use Rattle.head_anchor.specs.declared.ReadAnchor.{ReadAnchor}
 use Rattle.text.specs.Ascii.{ascii}
 use Rattle.text.specs.Words.{run}
-use Rattle.text.specs.Rests.{at, step, after}
+use Rattle.text.specs.Rests.{at, afterByte, after}
 use Rattle.hash_text.specs.LineHashes.{lineHashText}
 use Rattle.hash.specs.Ranges.{HashFits}
 use Rattle.hash_text.proofs.Back.{hash-back}
@@ -19,17 +19,17 @@ use Rattle.value_text.specs.declared.page.Page.{Page}
 use Rattle.head_anchor.specs.Ranges.{AnchorFits, SlotFits, SkipFits}
 
 pub spaced-hash-back : (h : Hash) (t : List ℕ) → HashFits h → run t ≡ 0 → spacedHash (at (ascii " " ++ (lineHashText h ++ t))) ≡ record { value = h; next = at t }
-unfolding spacedHash after step
+unfolding spacedHash after afterByte
 spaced-hash-back h t f z = hash-back h t f z
 
 pub spaced-anchor-back : (a : ReadAnchor) (t : List ℕ) → AnchorFits a → spacedAnchor (at (ascii " " ++ (anchorText Page.Line a ++ t))) ≡ record { value = a; next = at t }
-unfolding spacedAnchor after step
+unfolding spacedAnchor after afterByte
 spaced-anchor-back a t f = anchor-back Page.Line a t f
 
 pub spaced-slot-back : (s : AnchorSlot) (t : List ℕ) → SlotFits s → run t ≡ 0 → spacedSlot (at (ascii " " ++ (slotText Page.Line s ++ t))) ≡ record { value = s; next = at t }
-unfolding spacedSlot after step
+unfolding spacedSlot after afterByte
 spaced-slot-back s t f z = slot-back Page.Line s t f z
 
 pub spaced-skip-back : (x : BalSkip) (t : List ℕ) → SkipFits x → run t ≡ 0 → spacedSkip (at (ascii " " ++ (skipText x ++ t))) ≡ record { value = x; next = at t }
-unfolding spacedSkip after step
+unfolding spacedSkip after afterByte
 spaced-skip-back x t f z = skip-back x t f z

@@ -11,7 +11,7 @@ use Rattle.hash.specs.Logic.{if}
 use Rattle.text.specs.Ascii.{ascii}
 use Rattle.text.specs.Words.{inWord, run, word}
 use Rattle.text.specs.Decimals.{decimal, number}
-use Rattle.text.specs.Rests.{Rest, at, stopped, Took, step, after, wordHere, says, past, pastWord, numberGot, readNumber}
+use Rattle.text.specs.Rests.{Rest, at, stopped, Took, afterByte, after, wordHere, says, past, pastWord, numberGot, readNumber}
 use Rattle.text.specs.declared.decimal.Number.{Number}
 use Rattle.text.proofs.Only.{number-only}
 use Rattle.text.proofs.Same.{same-eq}
@@ -30,11 +30,11 @@ use Rattle.value_text.proofs.Back.{went-on}
 
 -- ---- given texts
 
-step-only : (b : ℕ) (r : Rest) (t : List ℕ) → step b r ≡ at t → r ≡ at (b ∷ t)
-unfolding step
-step-only b stopped t e = absurd (went-on t e)
-step-only b (at []) t e = absurd (went-on t e)
-step-only b (at (c ∷ s)) t e = go (eqb c b) refl e
+byte-only : (b : ℕ) (r : Rest) (t : List ℕ) → afterByte b r ≡ at t → r ≡ at (b ∷ t)
+unfolding afterByte
+byte-only b stopped t e = absurd (went-on t e)
+byte-only b (at []) t e = absurd (went-on t e)
+byte-only b (at (c ∷ s)) t e = go (eqb c b) refl e
   where
     go : (x : Bool) → eqb c b ≡ x → if x (at s) stopped ≡ at t → at (c ∷ s) ≡ at (b ∷ t)
     go true f g = let z : s ≡ t = cc in rw (eqb-true c b f, z)
@@ -43,7 +43,7 @@ step-only b (at (c ∷ s)) t e = go (eqb c b) refl e
 pub after-only : (k : List ℕ) (r : Rest) (t : List ℕ) → after k r ≡ at t → r ≡ at (k ++ t)
 unfolding after
 after-only [] r t e = e
-after-only (b ∷ k) r t e = step-only b r (k ++ t) (after-only k (step b r) t e)
+after-only (b ∷ k) r t e = byte-only b r (k ++ t) (after-only k (afterByte b r) t e)
 
 -- ---- words
 

@@ -40,29 +40,29 @@ spacedList r =
 -- ---- each call, after its keyword
 
 -- `(deliver A P H)`
-unfoldable pub readDeliver : Rest → LineCall
-readDeliver r =
+unfoldable pub deliverCall : Rest → LineCall
+deliverCall r =
     let a = spacedAnchor r in
     let p = spacedHash (a .next) in
     let h = spacedNumber (p .next) in
     closed (h .next) (Call.Deliver (a .value) (p .value) (h .value))
 
 -- `(claim A SEQ)`
-unfoldable pub readClaim : Rest → LineCall
-readClaim r =
+unfoldable pub claimCall : Rest → LineCall
+claimCall r =
     let ticket = spacedTicket r in
     closed (ticket .next) (Call.Claim (ticket .value))
 
 -- `(release SEQ EPOCH)`
-unfoldable pub readRelease : Rest → LineCall
-readRelease r =
+unfoldable pub releaseCall : Rest → LineCall
+releaseCall r =
     let n = spacedNumber r in
     let e = spacedNumber (n .next) in
     closed (e .next) (Call.Release (record { seq = record { 0 = n .value }; epoch = record { 0 = e .value } }))
 
 -- `(apply A SEQ A X H C REPORT)`, its second A the list's
-unfoldable pub readApply : Rest → LineCall
-readApply r =
+unfoldable pub applyCall : Rest → LineCall
+applyCall r =
     let ticket = spacedTicket r in
     let list = spacedList (ticket .next) in
     let h = spacedNumber (list .next) in
@@ -71,80 +71,80 @@ readApply r =
     closed (report .next) (Call.Apply (ticket .value) (list .value) (h .value) (c .value) (report .value))
 
 -- `(snapshot A H)`
-unfoldable pub readSnapshot : Rest → LineCall
-readSnapshot r =
+unfoldable pub snapshotCall : Rest → LineCall
+snapshotCall r =
     let a = spacedAnchor r in
     let h = spacedNumber (a .next) in
     closed (h .next) (Call.Snapshot (a .value) (h .value))
 
 -- `(wait N A H)`
-unfoldable pub readWait : Rest → LineCall
-readWait r =
+unfoldable pub waitCall : Rest → LineCall
+waitCall r =
     let n = spacedNumber r in
     let a = spacedAnchor (n .next) in
     let h = spacedNumber (a .next) in
     closed (h .next) (Call.Wait (n .value) (a .value) (h .value))
 
 -- `(resume N H)`
-unfoldable pub readResume : Rest → LineCall
-readResume r =
+unfoldable pub resumeCall : Rest → LineCall
+resumeCall r =
     let n = spacedNumber r in
     let h = spacedNumber (n .next) in
     closed (h .next) (Call.Resume (n .value) (h .value))
 
 -- `(completion A)`
-unfoldable pub readCompletion : Rest → LineCall
-readCompletion r =
+unfoldable pub completionCall : Rest → LineCall
+completionCall r =
     let a = spacedAnchor r in
     closed (a .next) (Call.Completion (a .value))
 
 -- `(link A A P)` or `(link none A P)`
-unfoldable pub readLink : Rest → LineCall
-readLink r =
+unfoldable pub linkCall : Rest → LineCall
+linkCall r =
     let parent = spacedSlot r in
     let a = spacedAnchor (parent .next) in
     let p = spacedHash (a .next) in
     closed (p .next) (Call.Link (parent .value) (a .value) (p .value))
 
 -- `(report)`
-unfoldable pub readReport : Rest → LineCall
-readReport r = closed r Call.Report
+unfoldable pub reportCall : Rest → LineCall
+reportCall r = closed r Call.Report
 
 -- `(stats)`
-unfoldable pub readStats : Rest → LineCall
-readStats r = closed r Call.Stats
+unfoldable pub statsCall : Rest → LineCall
+statsCall r = closed r Call.Stats
 
 -- `(heads)`
-unfoldable pub readHeads : Rest → LineCall
-readHeads r = closed r Call.Heads
+unfoldable pub headsCall : Rest → LineCall
+headsCall r = closed r Call.Heads
 
 -- `(sheet)`
-unfoldable pub readSheet : Rest → LineCall
-readSheet r = if (ends r) LineCall.Sheet LineCall.NoCall
+unfoldable pub sheetCall : Rest → LineCall
+sheetCall r = if (ends r) LineCall.Sheet LineCall.NoCall
 
 -- ---- the call that a word names, with the rest after the word
 
 -- the last six
 unfoldable pub laterNamed : List ℕ → Rest → LineCall
 laterNamed w r =
-    if (sameText w (ascii "completion")) (readCompletion r)
-    (if (sameText w (ascii "link")) (readLink r)
-    (if (sameText w (ascii "report")) (readReport r)
-    (if (sameText w (ascii "stats")) (readStats r)
-    (if (sameText w (ascii "heads")) (readHeads r)
-    (if (sameText w (ascii "sheet")) (readSheet r)
+    if (sameText w (ascii "completion")) (completionCall r)
+    (if (sameText w (ascii "link")) (linkCall r)
+    (if (sameText w (ascii "report")) (reportCall r)
+    (if (sameText w (ascii "stats")) (statsCall r)
+    (if (sameText w (ascii "heads")) (headsCall r)
+    (if (sameText w (ascii "sheet")) (sheetCall r)
     LineCall.NoCall)))))
 
 -- the first seven, and then those
 unfoldable pub callNamed : List ℕ → Rest → LineCall
 callNamed w r =
-    if (sameText w (ascii "deliver")) (readDeliver r)
-    (if (sameText w (ascii "claim")) (readClaim r)
-    (if (sameText w (ascii "release")) (readRelease r)
-    (if (sameText w (ascii "apply")) (readApply r)
-    (if (sameText w (ascii "snapshot")) (readSnapshot r)
-    (if (sameText w (ascii "wait")) (readWait r)
-    (if (sameText w (ascii "resume")) (readResume r)
+    if (sameText w (ascii "deliver")) (deliverCall r)
+    (if (sameText w (ascii "claim")) (claimCall r)
+    (if (sameText w (ascii "release")) (releaseCall r)
+    (if (sameText w (ascii "apply")) (applyCall r)
+    (if (sameText w (ascii "snapshot")) (snapshotCall r)
+    (if (sameText w (ascii "wait")) (waitCall r)
+    (if (sameText w (ascii "resume")) (resumeCall r)
     (laterNamed w r)))))))
 
 -- ---- lines

@@ -4,16 +4,16 @@ ghost use Rattle.text.specs.Places.{here, Reads};
 ghost use Rattle.value_text.specs.Reads.{readBlockHash};
 ghost use Rattle.value_text.specs.declared.page.Page.{Page};
 use crate::spaced::is_none;
-use crate::spaced::past_byte;
 use hash_read::read_hash;
 use hash_text::HashWord;
 use head_anchor::AnchorSlot;
 use head_anchor::BlockHash;
 use head_anchor::ReadAnchor;
-use line_reader::word_from;
+use line_word::word_from;
 use text::place::Place;
 use text_decimal::take_decimal;
 use text_place::past;
+use text_place::past_byte;
 
 // A block's hash and the place after it; unknown where reading has stopped.
 pub struct BlockHashFrom {

@@ -1,13 +1,12 @@
 // Call lines: from the bytes of a line to the call that they write, or to no call. The values of a call are read in `spaced`, `anchor` and `skip`.
 // Knows nothing of what a call does, nor of answers.
 ghost use mathlib.Core.Path.{_≡_};
-ghost use Rattle.script_call.specs.Calls.{ends as Calls·ends, closed as Calls·closed, spacedTicket, spacedList, readDeliver, readClaim, readRelease, readApply, readSnapshot, readWait, readResume, readCompletion, readLink, readReport, readStats, readHeads, readSheet, callNamed, laterNamed, call};
+ghost use Rattle.script_call.specs.Calls.{ends as Calls·ends, closed as Calls·closed, spacedTicket, spacedList, deliverCall, claimCall, releaseCall, applyCall, snapshotCall, waitCall, resumeCall, completionCall, linkCall, reportCall, statsCall, headsCall, sheetCall, callNamed, laterNamed, call};
 ghost use Rattle.script_call.specs.Dispatch.{viewNamed, bareNamed};
 ghost use Rattle.text.specs.Places.{here, Reads};
 use crate::anchor::spaced_anchor;
 use crate::anchor::spaced_slot;
 use crate::skip::spaced_skip;
-use crate::spaced::past_byte;
 use crate::spaced::spaced_hash;
 use crate::spaced::spaced_number;
 use head_anchor::PreparedBal;
@@ -16,11 +15,12 @@ use head_count::Epoch;
 use head_count::Seq;
 use head_current::HeadTicket;
 use head_current::PrepareClaim;
-use line_reader::word_from;
+use line_word::word_from;
 use text::place::Place;
 use text::word::same;
 use text_place::at_end;
 use text_place::past;
+use text_place::past_byte;
 
 mod anchor;
 mod skip;
@@ -97,8 +97,8 @@ pub(crate) fn spaced_list(line: &[u8], from: Place) -> ListFrom
 }
 
 // `(deliver A P H)`, from the place after its keyword.
-pub(crate) fn read_deliver(line: &[u8], from: Place) -> LineCall
-    ensures { λ r. ⌜ r ≡ readDeliver (here (now (line .entry)) from) ⌝ }
+pub(crate) fn deliver_call(line: &[u8], from: Place) -> LineCall
+    ensures { λ r. ⌜ r ≡ deliverCall (here (now (line .entry)) from) ⌝ }
 {
     let a = spaced_anchor(line, from);
     let i = a.next;
@@ -112,8 +112,8 @@ pub(crate) fn read_deliver(line: &[u8], from: Place) -> LineCall
 }
 
 // `(claim A SEQ)`
-pub(crate) fn read_claim(line: &[u8], from: Place) -> LineCall
-    ensures { λ r. ⌜ r ≡ readClaim (here (now (line .entry)) from) ⌝ }
+pub(crate) fn claim_call(line: &[u8], from: Place) -> LineCall
+    ensures { λ r. ⌜ r ≡ claimCall (here (now (line .entry)) from) ⌝ }
 {
     let t = spaced_ticket(line, from);
     let i = t.next;
@@ -122,8 +122,8 @@ pub(crate) fn read_claim(line: &[u8], from: Place) -> LineCall
 }
 
 // `(release SEQ EPOCH)`
-pub(crate) fn read_release(line: &[u8], from: Place) -> LineCall
-    ensures { λ r. ⌜ r ≡ readRelease (here (now (line .entry)) from) ⌝ }
+pub(crate) fn release_call(line: &[u8], from: Place) -> LineCall
+    ensures { λ r. ⌜ r ≡ releaseCall (here (now (line .entry)) from) ⌝ }
 {
     let n = spaced_number(line, from);
     let i = n.next;
@@ -137,8 +137,8 @@ pub(crate) fn read_release(line: &[u8], from: Place) -> LineCall
 }
 
 // `(apply A SEQ A X H C REPORT)`
-pub(crate) fn read_apply(line: &[u8], from: Place) -> LineCall
-    ensures { λ r. ⌜ r ≡ readApply (here (now (line .entry)) from) ⌝ }
+pub(crate) fn apply_call(line: &[u8], from: Place) -> LineCall
+    ensures { λ r. ⌜ r ≡ applyCall (here (now (line .entry)) from) ⌝ }
 {
     let t = spaced_ticket(line, from);
     let i = t.next;
@@ -160,8 +160,8 @@ pub(crate) fn read_apply(line: &[u8], from: Place) -> LineCall
 }
 
 // `(snapshot A H)`
-pub(crate) fn read_snapshot(line: &[u8], from: Place) -> LineCall
-    ensures { λ r. ⌜ r ≡ readSnapshot (here (now (line .entry)) from) ⌝ }
+pub(crate) fn snapshot_call(line: &[u8], from: Place) -> LineCall
+    ensures { λ r. ⌜ r ≡ snapshotCall (here (now (line .entry)) from) ⌝ }
 {
     let a = spaced_anchor(line, from);
     let i = a.next;
@@ -172,8 +172,8 @@ pub(crate) fn read_snapshot(line: &[u8], from: Place) -> LineCall
 }
 
 // `(wait N A H)`
-pub(crate) fn read_wait(line: &[u8], from: Place) -> LineCall
-    ensures { λ r. ⌜ r ≡ readWait (here (now (line .entry)) from) ⌝ }
+pub(crate) fn wait_call(line: &[u8], from: Place) -> LineCall
+    ensures { λ r. ⌜ r ≡ waitCall (here (now (line .entry)) from) ⌝ }
 {
     let n = spaced_number(line, from);
     let i = n.next;
@@ -186,8 +186,8 @@ pub(crate) fn read_wait(line: &[u8], from: Place) -> LineCall
 }
 
 // `(resume N H)`
-pub(crate) fn read_resume(line: &[u8], from: Place) -> LineCall
-    ensures { λ r. ⌜ r ≡ readResume (here (now (line .entry)) from) ⌝ }
+pub(crate) fn resume_call(line: &[u8], from: Place) -> LineCall
+    ensures { λ r. ⌜ r ≡ resumeCall (here (now (line .entry)) from) ⌝ }
 {
     let n = spaced_number(line, from);
     let i = n.next;
@@ -197,8 +197,8 @@ pub(crate) fn read_resume(line: &[u8], from: Place) -> LineCall
 }
 
 // `(completion A)`
-pub(crate) fn read_completion(line: &[u8], from: Place) -> LineCall
-    ensures { λ r. ⌜ r ≡ readCompletion (here (now (line .entry)) from) ⌝ }
+pub(crate) fn completion_call(line: &[u8], from: Place) -> LineCall
+    ensures { λ r. ⌜ r ≡ completionCall (here (now (line .entry)) from) ⌝ }
 {
     let a = spaced_anchor(line, from);
     let i = a.next;
@@ -207,8 +207,8 @@ pub(crate) fn read_completion(line: &[u8], from: Place) -> LineCall
 }
 
 // `(link A A P)` or `(link none A P)`
-pub(crate) fn read_link(line: &[u8], from: Place) -> LineCall
-    ensures { λ r. ⌜ r ≡ readLink (here (now (line .entry)) from) ⌝ }
+pub(crate) fn link_call(line: &[u8], from: Place) -> LineCall
+    ensures { λ r. ⌜ r ≡ linkCall (here (now (line .entry)) from) ⌝ }
 {
     let s = spaced_slot(line, from);
     let i = s.next;
@@ -223,29 +223,29 @@ pub(crate) fn read_link(line: &[u8], from: Place) -> LineCall
 }
 
 // `(report)`
-pub(crate) fn read_report(line: &[u8], from: Place) -> LineCall
-    ensures { λ r. ⌜ r ≡ readReport (here (now (line .entry)) from) ⌝ }
+pub(crate) fn report_call(line: &[u8], from: Place) -> LineCall
+    ensures { λ r. ⌜ r ≡ reportCall (here (now (line .entry)) from) ⌝ }
 {
     closed(line, from, Call::Report)
 }
 
 // `(stats)`
-pub(crate) fn read_stats(line: &[u8], from: Place) -> LineCall
-    ensures { λ r. ⌜ r ≡ readStats (here (now (line .entry)) from) ⌝ }
+pub(crate) fn stats_call(line: &[u8], from: Place) -> LineCall
+    ensures { λ r. ⌜ r ≡ statsCall (here (now (line .entry)) from) ⌝ }
 {
     closed(line, from, Call::Stats)
 }
 
 // `(heads)`
-pub(crate) fn read_heads(line: &[u8], from: Place) -> LineCall
-    ensures { λ r. ⌜ r ≡ readHeads (here (now (line .entry)) from) ⌝ }
+pub(crate) fn heads_call(line: &[u8], from: Place) -> LineCall
+    ensures { λ r. ⌜ r ≡ headsCall (here (now (line .entry)) from) ⌝ }
 {
     closed(line, from, Call::Heads)
 }
 
 // `(sheet)`
-pub(crate) fn read_sheet(line: &[u8], from: Place) -> LineCall
-    ensures { λ r. ⌜ r ≡ readSheet (here (now (line .entry)) from) ⌝ }
+pub(crate) fn sheet_call(line: &[u8], from: Place) -> LineCall
+    ensures { λ r. ⌜ r ≡ sheetCall (here (now (line .entry)) from) ⌝ }
 {
     if ends(line, from) {
         return LineCall::Sheet;
@@ -258,16 +258,16 @@ pub(crate) fn by_bare_word(line: &[u8], word: &[u8], from: Place) -> LineCall
     ensures { λ r. ⌜ r ≡ bareNamed (now (word .entry)) (here (now (line .entry)) from) ⌝ }
 {
     if same(word, b"report") {
-        return read_report(line, from);
+        return report_call(line, from);
     }
     if same(word, b"stats") {
-        return read_stats(line, from);
+        return stats_call(line, from);
     }
     if same(word, b"heads") {
-        return read_heads(line, from);
+        return heads_call(line, from);
     }
     if same(word, b"sheet") {
-        return read_sheet(line, from);
+        return sheet_call(line, from);
     }
     LineCall::NoCall
 }
@@ -277,10 +277,10 @@ pub(crate) fn by_later_word(line: &[u8], word: &[u8], from: Place) -> LineCall
     ensures { λ r. ⌜ r ≡ laterNamed (now (word .entry)) (here (now (line .entry)) from) ⌝ }
 {
     if same(word, b"completion") {
-        return read_completion(line, from);
+        return completion_call(line, from);
     }
     if same(word, b"link") {
-        return read_link(line, from);
+        return link_call(line, from);
     }
     by_bare_word(line, word, from)
 }
@@ -290,13 +290,13 @@ pub(crate) fn by_view_word(line: &[u8], word: &[u8], from: Place) -> LineCall
     ensures { λ r. ⌜ r ≡ viewNamed (now (word .entry)) (here (now (line .entry)) from) ⌝ }
 {
     if same(word, b"snapshot") {
-        return read_snapshot(line, from);
+        return snapshot_call(line, from);
     }
     if same(word, b"wait") {
-        return read_wait(line, from);
+        return wait_call(line, from);
     }
     if same(word, b"resume") {
-        return read_resume(line, from);
+        return resume_call(line, from);
     }
     by_later_word(line, word, from)
 }
@@ -306,16 +306,16 @@ pub(crate) fn by_word(line: &[u8], word: &[u8], from: Place) -> LineCall
     ensures { λ r. ⌜ r ≡ callNamed (now (word .entry)) (here (now (line .entry)) from) ⌝ }
 {
     if same(word, b"deliver") {
-        return read_deliver(line, from);
+        return deliver_call(line, from);
     }
     if same(word, b"claim") {
-        return read_claim(line, from);
+        return claim_call(line, from);
     }
     if same(word, b"release") {
-        return read_release(line, from);
+        return release_call(line, from);
     }
     if same(word, b"apply") {
-        return read_apply(line, from);
+        return apply_call(line, from);
     }
     by_view_word(line, word, from)
 }

@@ -3,13 +3,13 @@ ghost use Rattle.script_call.specs.Values.{spacedSkip};
 ghost use Rattle.text.specs.Places.{here, Reads};
 ghost use Rattle.value_text.specs.Reads.{readFailure};
 use crate::spaced::is_none;
-use crate::spaced::past_byte;
 use crate::spaced::spaced_number;
 use head_anchor::BalSkip;
-use line_reader::word_from;
+use line_word::word_from;
 use text::place::Place;
 use text::word::same;
 use text_place::past;
+use text_place::past_byte;
 
 // A skip and the place after it; none where reading has stopped.
 pub struct SkipFrom {

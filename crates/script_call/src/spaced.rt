@@ -1,35 +1,26 @@
 // What parts the values of a call, the word for no value, and numbers and hashes, each after one space.
-ghost use mathlib.Core.List.{[], _∷_};
 ghost use mathlib.Core.Path.{_≡_};
 ghost use Rattle.hash_text.specs.Reads.{readHash};
 ghost use Rattle.script_call.specs.Values.{spacedHash};
 ghost use Rattle.text.specs.Ascii.{ascii};
 ghost use Rattle.text.specs.Places.{here, Reads};
-ghost use Rattle.text.specs.Rests.{after};
 ghost use Rattle.text.specs.Same.{sameText};
 ghost use Rattle.value_text.specs.Reads.{spacedNumber};
 use hash::Hash;
 use hash_read::read_hash;
 use hash_text::HashWord;
-use line_reader::word_from;
+use line_word::word_from;
 use text::decimal::NumberFrom;
 use text::place::Place;
 use text::word::same;
 use text_decimal::take_decimal;
-use text_place::expect;
 use text_place::past;
+use text_place::past_byte;
 
 // A hash and the place after it; all zeros where reading has stopped.
 pub struct HashFrom {
     pub value: Hash,
     pub next: Place,
-}
-
-// The place after one byte, where that byte stands: what parts values is a space or a bracket.
-pub(crate) fn past_byte(line: &[u8], from: Place, byte: u8) -> Place
-    ensures { λ r. ⌜ here (now (line .entry)) r ≡ after (byte ∷ []) (here (now (line .entry)) from) ⌝ }
-{
-    expect(line, from, &[byte])
 }
 
 // Whether a word is `none`: no hash, no anchor, no skip.

@@ -4,12 +4,13 @@ ghost use lib.ListN.{length};
 ghost use Rattle.head_driver.specs.declared.Answer.{Answer};
 ghost use Rattle.script_value.specs.Lines.{answerText};
 ghost use Rattle.text.specs.Writes.{Wrote};
+ghost use Rattle.value_text.specs.Texts.{linkText};
 use head_anchor::AnchorSlot;
 use head_anchor::Link;
 use head_attempt::HeadCompletion;
 use head_count::HeadStats;
 use head_current::LastReport;
-use link_text::put_link_word;
+use link_text::put_fault;
 use script_report::put_report;
 use script_value::counters::put_stats;
 use text_put::put::put;
@@ -27,6 +28,18 @@ pub(crate) fn put_completion(buf: &mut [u8], at: usize, end: HeadCompletion) -> 
         HeadCompletion::Settled => put(buf, at, b"(completion settled)"),
         HeadCompletion::Superseded => put(buf, at, b"(completion superseded)"),
         HeadCompletion::Abandoned => put(buf, at, b"(completion abandoned)"),
+    }
+}
+
+// Puts how a link stands: `linked`, or what is wrong with it.
+pub(crate) fn put_link_word(buf: &mut [u8], at: usize, link: Link) -> usize
+    requires { ⌜ at + 15 ≤ length (now buf) ⌝ }
+    ensures { λ r. ⌜ Wrote (now (buf .entry)) (now (buf .exit)) at r (linkText link) ⌝ }
+    ensures { λ r. ⌜ r ≤ at + 15 ⌝ }
+{
+    match link {
+        Link::Linked => put(buf, at, b"linked"),
+        _ => put_fault(buf, at, link),
     }
 }
 

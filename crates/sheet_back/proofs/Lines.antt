@@ -26,7 +26,7 @@ use Rattle.value_text.specs.Words.{wordText}
 use Rattle.sheet_lines.specs.Lines.{countLine, currentLine, deliveryText, generationText, installedLine, unclaimedEndText, previousLine, supersededLine, unsettledText}
 use Rattle.text.proofs.Back.{past-back, word-back}
 use Rattle.text.specs.Ascii.{ascii}
-use Rattle.text.specs.Rests.{after, at, step}
+use Rattle.text.specs.Rests.{after, at, afterByte}
 use Rattle.text.specs.Same.{sameText}
 use Rattle.text.specs.Words.{inWord, run}
 use Rattle.head_anchor.specs.declared.AnchorSlot.{AnchorSlot}
@@ -49,13 +49,13 @@ unfolding countLine
 count-form s e t = simp append-assoc
 
 pub count-back : (s : HeadStats) (e : Epoch) (t : List ℕ) → StatsFit s → Fits (e .0) → readCount (at (countLine s e ++ t)) ≡ got (record { stats = s; epoch = e }) (at t)
-unfolding readCount after step run inWord
+unfolding readCount after afterByte run inWord
 count-back s e t f g = rw (count-form s e t) (simp (stats-back, spaced-run, spaced-back))
 
 -- ---- current
 
 delivery-back : (n : ℕ) (held : HeadDelivery) (t : List ℕ) → DeliveryFits held → run t ≡ 0 → readDelivery n (at (deliveryText held ++ t)) ≡ got (deliveryOf (held .anchor) (held .«parent_hash») (seqOf n)) (at t)
-unfolding readDelivery deliveryText hashText after step
+unfolding readDelivery deliveryText hashText after afterByte
 delivery-back n held t f z =
     let fa = f .anchor in
     let fh = f .parent-hash in
@@ -70,7 +70,7 @@ unclaimed-end-back HeadCompletion.Abandoned t f z = word-miss _ _ t z (ascii "op
 
 module _ (n : ℕ) (e : Epoch) where
   named : (w t : List ℕ) → run w ≡ length w → run t ≡ 0 → readCurrent n e (at (ascii "(current " ++ (w ++ t))) ≡ then (ascii ")\n") (headNamed n e w (at t))
-  unfolding readCurrent after step
+  unfolding readCurrent after afterByte
   named w t h z = rw (word-back w t h z, past-back w t h z)
 
   -- a line from its word and what follows
@@ -84,7 +84,7 @@ module _ (n : ℕ) (e : Epoch) where
 
     unclaimed-named : OpenOrAbandoned (u .attempt .end)
         → then (ascii ")\n") (headNamed n e (ascii "unclaimed") (at (ascii " " ++ (deliveryText (u .delivery) ++ (spacedText (u .provisional) ++ (ascii " " ++ (unclaimedEndText (u .attempt .end) ++ (ascii ")\n" ++ t)))))))) ≡ got (shownHead n e (CurrentHead.Unclaimed u)) (at t)
-    unfolding headNamed readUnclaimed shownHead sameText then after step run inWord
+    unfolding headNamed readUnclaimed shownHead sameText then after afterByte run inWord
     unclaimed-named h =
         let fd = f .delivery in
         let fp = f .provisional in
@@ -99,7 +99,7 @@ module _ (n : ℕ) (e : Epoch) where
     preparing-form = simp append-assoc
 
     preparing-named : then (ascii ")\n") (headNamed n e (ascii "preparing") (at (ascii " " ++ (deliveryText (u .delivery) ++ (spacedText (u .provisional) ++ (ascii ")\n" ++ t)))))) ≡ got (shownHead n e (CurrentHead.Preparing u)) (at t)
-    unfolding headNamed readPreparing shownHead sameText then after step run inWord
+    unfolding headNamed readPreparing shownHead sameText then after afterByte run inWord
     preparing-named =
         let fd = f .delivery in
         let fp = f .provisional in
@@ -115,7 +115,7 @@ module _ (n : ℕ) (e : Epoch) where
     settled-form = simp append-assoc
 
     settled-named : then (ascii ")\n") (headNamed n e (ascii "settled") (at (ascii " " ++ (deliveryText (s .delivery) ++ (ascii " " ++ (reportText (s .report) ++ (ascii ")\n" ++ t))))))) ≡ got (shownHead n e (CurrentHead.Settled s)) (at t)
-    unfolding headNamed readSettled shownHead sameText then after step run inWord
+    unfolding headNamed readSettled shownHead sameText then after afterByte run inWord
     settled-named =
         let fd = f .delivery in
         let fr = f .report in
@@ -126,7 +126,7 @@ module _ (n : ℕ) (e : Epoch) where
     settled-back = rw settled-form (named (ascii "settled") _ refl refl ∙ settled-named)
 
   absent-back : (t : List ℕ) → readCurrent n e (at (currentLine CurrentHead.Absent ++ t)) ≡ got (shownHead n e CurrentHead.Absent) (at t)
-  unfolding currentLine headNamed shownHead sameText then after step run inWord
+  unfolding currentLine headNamed shownHead sameText then after afterByte run inWord
   absent-back t = named (ascii "none") (ascii ")\n" ++ t) refl refl
 
   pub current-back : (c : CurrentHead) (t : List ℕ) → HeadFits c → WhenUnclaimed c (λ u. OpenOrAbandoned (u .attempt .end)) → readCurrent n e (at (currentLine c ++ t)) ≡ got (shownHead n e c) (at t)
@@ -138,7 +138,7 @@ module _ (n : ℕ) (e : Epoch) where
 -- ---- superseded
 
 pub superseded-back : (s : AnchorSlot) (t : List ℕ) → SlotFits s → readSuperseded (at (supersededLine s ++ t)) ≡ got s (at t)
-unfolding readSuperseded supersededLine then after step run inWord
+unfolding readSuperseded supersededLine then after afterByte run inWord
 superseded-back s t f = simp (append-assoc, slot-back)
 
 -- ---- installed and previous
@@ -148,7 +148,7 @@ unfolding generationText
 held-form g t = simp append-assoc
 
 held-back : (g : Generation) (t : List ℕ) → GenerationFits g → run t ≡ 0 → readHeld (at (generationText (GenerationSlot.Held g) ++ t)) ≡ got (GenerationSlot.Held g) (at t)
-unfolding readHeld after step run inWord
+unfolding readHeld after afterByte run inWord
 held-back g t f z =
     let fa = f .anchor in
     let fh = f .handle in
@@ -164,9 +164,9 @@ generation-back (GenerationSlot.Held g) t f z = held-open g t ∙ held-back g t 
     held-open g t = rw (held-form g t, anchor-form Page.Sheet (g .anchor)) (open-miss _ _ _ _ _)
 
 pub installed-back : (g : GenerationSlot) (t : List ℕ) → GenerationSlotFits g → readInstalled (at (installedLine g ++ t)) ≡ got g (at t)
-unfolding readInstalled installedLine then after step run inWord
+unfolding readInstalled installedLine then after afterByte run inWord
 installed-back g t f = simp (append-assoc, generation-back)
 
 pub previous-back : (g : GenerationSlot) (t : List ℕ) → GenerationSlotFits g → readPrevious (at (previousLine g ++ t)) ≡ got g (at t)
-unfolding readPrevious previousLine then after step run inWord
+unfolding readPrevious previousLine then after afterByte run inWord
 previous-back g t f = simp (append-assoc, generation-back)

@@ -16,7 +16,7 @@ use Rattle.sheet_lines.specs.Lines.{waiterLine, waiterLines}
 use Rattle.text.proofs.Back.{number-back, past-back, word-back}
 use Rattle.text.specs.Ascii.{ascii}
 use Rattle.text.specs.Decimals.{decimal, number}
-use Rattle.text.specs.Rests.{Took, after, at, numberGot, past, pastWord, readNumber, step, wordHere}
+use Rattle.text.specs.Rests.{Took, after, at, numberGot, past, pastWord, readNumber, afterByte, wordHere}
 use Rattle.text.specs.Same.{sameText}
 use Rattle.text.specs.Words.{inWord, run}
 use Rattle.head_anchor.specs.declared.ReadAnchor.{ReadAnchor}
@@ -31,26 +31,26 @@ next s = readNumber (after (ascii "(wait ") (at s))
 
 -- a line `(wait N ..`
 number-next : (n : ℕ) (s : List ℕ) → Fits n → run s ≡ 0 → next (ascii "(wait " ++ (decimal n ++ s)) ≡ got n (at s)
-unfolding after step
+unfolding after afterByte
 number-next n s f z = number-back n s f z
 
 -- ---- one line, after its number
 
 named : (w t : List ℕ) → run w ≡ length w → run t ≡ 0 → readWaiter (at (ascii " " ++ (w ++ t))) ≡ then (ascii ")\n") (waiterNamed w (at t))
-unfolding readWaiter after step
+unfolding readWaiter after afterByte
 named w t e z = rw (word-back w t e z, past-back w t e z)
 
 parked-back : (t : List ℕ) → readWaiter (at (ascii " parked)\n" ++ t)) ≡ got Waiter.Parked (at t)
-unfolding waiterNamed sameText then after step run inWord
+unfolding waiterNamed sameText then after afterByte run inWord
 parked-back t = named (ascii "parked") (ascii ")\n" ++ t) refl refl
 
 module _ (a : ReadAnchor) (t : List ℕ) (f : AnchorFits a) where
   abandoned-named : then (ascii ")\n") (waiterNamed (ascii "abandoned") (at (ascii " " ++ (anchorText Page.Sheet a ++ (ascii ")\n" ++ t))))) ≡ got (Waiter.Abandoned a) (at t)
-  unfolding waiterNamed sameText then map after step
+  unfolding waiterNamed sameText then map after afterByte
   abandoned-named = let fa = f in simp anchor-back
 
   ended-named : then (ascii ")\n") (waiterNamed (ascii "ended") (at (ascii " " ++ (anchorText Page.Sheet a ++ (ascii ")\n" ++ t))))) ≡ got (Waiter.Ended a) (at t)
-  unfolding waiterNamed sameText then map after step
+  unfolding waiterNamed sameText then map after afterByte
   ended-named = let fa = f in simp anchor-back
 
   abandoned-back : readWaiter (at (ascii " abandoned " ++ (anchorText Page.Sheet a ++ (ascii ")\n" ++ t)))) ≡ got (Waiter.Abandoned a) (at t)
@@ -112,7 +112,7 @@ later-line (Waiter.Ended a) m n t l f h = rw (ended-form n t a) (other-line m n 
 
 -- no line is left
 none-named : (m : ℕ) → names m (next []) ≡ false
-unfolding names going after step readNumber numberGot number wordHere pastWord past
+unfolding names going after afterByte readNumber numberGot number wordHere pastWord past
 none-named m = refl
 
 later : (ws : List WaiterSlot) (m n : ℕ) → m < n → Fits (n + length ws) → names m (next (waiterLines n ws)) ≡ false

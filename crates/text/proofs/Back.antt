@@ -11,14 +11,14 @@ use borrow.Author.Tests.{eq-eqb, le-leb, lt-ltb, le-ltb}
 use Rattle.text.specs.Words.{run}
 use Rattle.text.specs.Same.{sameText}
 use Rattle.text.specs.Decimals.{decimal, decimalOn}
-use Rattle.text.specs.Rests.{at, step, after, wordHere, says, past, pastWord, numberGot, readNumber}
+use Rattle.text.specs.Rests.{at, afterByte, after, wordHere, says, past, pastWord, numberGot, readNumber}
 use Rattle.text.proofs.Words.{word-append}
 use Rattle.text.proofs.DecimalRead.{read-decimal, run-decimal}
 
 -- ---- given texts
 
 pub after-back : (k t : List ℕ) → after k (at (k ++ t)) ≡ at t
-unfolding after step
+unfolding after afterByte
 after-back [] t = refl
 after-back (b ∷ k) t = rw (eq-eqb b b refl) (after-back k t)
 

@@ -14,57 +14,42 @@ use borrow.Author.Tests.{eq-eqb, ne-eqb, le-leb, lt-leb}
 use Rattle.text.specs.Words.{word}
 use Rattle.text.specs.Same.{sameText}
 use Rattle.text.specs.Decimals.{number}
-use Rattle.text.specs.Rests.{Rest, at, stopped, step, after, wordHere, says, past, pastWord, atEnd, numberGot, readNumber}
+use Rattle.text.specs.Rests.{Rest, at, stopped, afterByte, after, wordHere, says, past, pastWord, atEnd, numberGot, readNumber}
 use Rattle.text.specs.Places.{here, Reads}
 use Rattle.text.specs.declared.place.Place.{Place}
 use Rattle.text.specs.declared.decimal.Number.{Number}
 
-after-stopped : (k : List ℕ) → after k stopped ≡ stopped
-unfolding after step
-after-stopped [] = refl
-after-stopped (b ∷ k) = after-stopped k
-
--- ---- one byte of the text, and one of the line
-
-after-cons : (k : List ℕ) (n : ℕ) (r : Rest) → n < length k → after (drop n k) r ≡ after (drop (n + 1) k) (step (getD k n 0) r)
-unfolding after
-after-cons k n r h = rw (add-one n, drop-cons k n 0 h)
-
 module _ (l : List ℕ) (j b : ℕ) where
-  step-end : length l ≤ j → step b (at (drop j l)) ≡ stopped
-  unfolding step
-  step-end h = rw (drop-of-length-le l h)
+  byte-end : length l ≤ j → afterByte b (at (drop j l)) ≡ stopped
+  unfolding afterByte
+  byte-end h = rw (drop-of-length-le l h)
 
-  step-other : j < length l → (getD l j 0 ≡ b → ⊥) → step b (at (drop j l)) ≡ stopped
-  unfolding step
-  step-other h f = rw (drop-cons l j 0 h, ne-eqb (getD l j 0) b f)
+  byte-other : j < length l → (getD l j 0 ≡ b → ⊥) → afterByte b (at (drop j l)) ≡ stopped
+  unfolding afterByte
+  byte-other h f = rw (drop-cons l j 0 h, ne-eqb (getD l j 0) b f)
 
-  step-on : j < length l → getD l j 0 ≡ b → step b (at (drop j l)) ≡ at (drop (j + 1) l)
-  unfolding step
-  step-on h f = rw (add-one j, drop-cons l j 0 h, eq-eqb (getD l j 0) b f)
-
-pub expect-more : (l k : List ℕ) (j n : ℕ) (w : Rest) → after (drop n k) (at (drop j l)) ≡ w → n < length k → j < length l → getD l j 0 ≡ getD k n 0 → after (drop (n + 1) k) (at (drop (j + 1) l)) ≡ w
-expect-more l k j n w inv h g f = rw (after-cons k n (at (drop j l)) h, step-on l j (getD k n 0) g f) at inv
+  byte-on : j < length l → getD l j 0 ≡ b → afterByte b (at (drop j l)) ≡ at (drop (j + 1) l)
+  unfolding afterByte
+  byte-on h f = rw (add-one j, drop-cons l j 0 h, eq-eqb (getD l j 0) b f)
 
 module _ (l : List ℕ) (p : Place) where
-  -- ---- `expect`
-  pub expect-stopped : (k : List ℕ) → p ≡ Place.Stopped → here l Place.Stopped ≡ after k (here l p)
-  unfolding here
-  expect-stopped k e = rw (e, after-stopped k)
+  -- ---- `past_byte`
+  pub byte-stopped : (b : ℕ) → p ≡ Place.Stopped → here l Place.Stopped ≡ after (b ∷ []) (here l p)
+  unfolding here after afterByte
+  byte-stopped b e = rw e
 
-  -- the loop: what is left of the text, from the place that is reached, leads where the whole leads
-  module _ (k : List ℕ) (i j n : ℕ) (inv : after (drop n k) (at (drop j l)) ≡ after k (at (drop i l))) (e : p ≡ Place.At i) where
-    pub expect-end : n < length k → length l ≤ j → here l Place.Stopped ≡ after k (here l p)
-    unfolding here
-    expect-end h g = rw (e, ← inv, after-cons k n (at (drop j l)) h, step-end l j (getD k n 0) g, after-stopped)
-
-    pub expect-other : n < length k → j < length l → (getD l j 0 ≡ getD k n 0 → ⊥) → here l Place.Stopped ≡ after k (here l p)
-    unfolding here
-    expect-other h g f = rw (e, ← inv, after-cons k n (at (drop j l)) h, step-other l j (getD k n 0) g f, after-stopped)
-
-    pub expect-done : length k ≤ n → here l (Place.At j) ≡ after k (here l p)
+  module _ (b i : ℕ) (e : p ≡ Place.At i) where
+    pub byte-past-end : length l ≤ i → here l Place.Stopped ≡ after (b ∷ []) (here l p)
     unfolding here after
-    expect-done h = rw (e, ← inv, drop-of-length-le k h)
+    byte-past-end h = rw (e, byte-end l i b h)
+
+    pub byte-differs : i < length l → (getD l i 0 ≡ b → ⊥) → here l Place.Stopped ≡ after (b ∷ []) (here l p)
+    unfolding here after
+    byte-differs h f = rw (e, byte-other l i b h f)
+
+    pub byte-stands : i < length l → getD l i 0 ≡ b → here l (Place.At (i + 1)) ≡ after (b ∷ []) (here l p)
+    unfolding here after
+    byte-stands h f = rw (e, byte-on l i b h f)
 
   -- ---- `word_from`
   pub word-none : p ≡ Place.Stopped → take (0 - 0) (drop 0 l) ≡ wordHere (here l p)

@@ -23,15 +23,15 @@ pub record Took (A : Type 0) : Type 0 where
 -- ---- given texts
 
 -- the rest after one byte
-unfoldable pub step : ℕ → Rest → Rest
-step b stopped = stopped
-step b (at []) = stopped
-step b (at (c ∷ s)) = if (eqb c b) (at s) stopped
+unfoldable pub afterByte : ℕ → Rest → Rest
+afterByte b stopped = stopped
+afterByte b (at []) = stopped
+afterByte b (at (c ∷ s)) = if (eqb c b) (at s) stopped
 
 -- the rest after the text k
 unfoldable pub after : List ℕ → Rest → Rest
 after [] r = r
-after (b ∷ k) r = after k (step b r)
+after (b ∷ k) r = after k (afterByte b r)
 
 -- ---- words
 

@@ -5,7 +5,7 @@ ghost use Rattle.text.specs.Decimals.{digit, more, number};
 ghost use Rattle.text.specs.Rests.{readNumber};
 ghost use Rattle.text.specs.Places.{here, Reads};
 ghost use Rattle.text.specs.declared.decimal.Number.{Number};
-use line_reader::word_from;
+use line_word::word_from;
 use text::decimal::Number;
 use text::decimal::NumberFrom;
 use text::place::Place;

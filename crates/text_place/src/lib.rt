@@ -1,30 +1,25 @@
-// Reading on from a place of a line: over a given text, over a word, to the line's end.
+// Reading on from a place of a line: over a byte, over a word, to the line's end.
 // Knows nothing of numbers, hashes or keywords.
+ghost use mathlib.Core.List.{[], _∷_};
 ghost use mathlib.Core.Path.{_≡_};
 ghost use Rattle.text.specs.Rests.{after, past as Rests·past, atEnd};
 ghost use Rattle.text.specs.Places.{here};
 use text::place::Place;
 
-// The place after a given text: the spaces and brackets between words.
-pub fn expect(line: &[u8], from: Place, text: &[u8]) -> Place
-    ensures { λ r. ⌜ here (now (line .entry)) r ≡ after (now (text .entry)) (here (now (line .entry)) from) ⌝ }
+// The place after one byte, where that byte stands: what parts values is a space or a bracket.
+pub fn past_byte(line: &[u8], from: Place, byte: u8) -> Place
+    ensures { λ r. ⌜ here (now (line .entry)) r ≡ after (byte ∷ []) (here (now (line .entry)) from) ⌝ }
 {
     let Place::At(at) = from else {
         return Place::Stopped;
     };
-    let mut next = at;
-    let mut i = 0;
-    while i < text.len() {
-        if next >= line.len() {
-            return Place::Stopped;
-        }
-        if line[next] != text[i] {
-            return Place::Stopped;
-        }
-        next += 1;
-        i += 1;
+    if at >= line.len() {
+        return Place::Stopped;
     }
-    Place::At(next)
+    if line[at] != byte {
+        return Place::Stopped;
+    }
+    Place::At(at + 1)
 }
 
 // The place that many bytes on: after a word, by its length, so that the word is looked for once.

@@ -15,7 +15,7 @@ use Rattle.head_anchor.specs.declared.BlockHash.{BlockHash}
 use Rattle.head_anchor.specs.declared.ReadAnchor.{ReadAnchor}
 use Rattle.text.specs.Ascii.{ascii}
 use Rattle.text.specs.Decimals.{decimal}
-use Rattle.text.specs.Rests.{Rest, at, stopped, Took, step, after, wordHere, says, pastWord}
+use Rattle.text.specs.Rests.{Rest, at, stopped, Took, afterByte, after, wordHere, says, pastWord}
 use Rattle.text.specs.Same.{sameText}
 use Rattle.text.specs.Words.{inWord, run}
 use Rattle.text.proofs.Back.{says-back, past-back, number-back}
@@ -60,7 +60,7 @@ unfolding anchorText anchorValue valueText blockHashText
 anchor-form p a = refl
 
 pub anchor-back : (p : Page) (a : ReadAnchor) (t : List ℕ) → AnchorFits a → readAnchor p (at (anchorText p a ++ t)) ≡ got a (at t)
-unfolding readAnchor after step run inWord
+unfolding readAnchor after afterByte run inWord
 anchor-back p a t f = rw (anchor-form p a) (simp (append-assoc, number-back, block-hash-back, f .number, f .hash))
 
 at-back : (p : Page) (a : ReadAnchor) (t : List ℕ) → AnchorFits a
@@ -76,25 +76,25 @@ slot-back p (AnchorSlot.At a) t f z = at-back p a t f
 -- ---- skips
 
 pub spaced-number-back : (n : ℕ) (t : List ℕ) → Fits n → run t ≡ 0 → spacedNumber (at (ascii " " ++ (decimal n ++ t))) ≡ got n (at t)
-unfolding spacedNumber after step
+unfolding spacedNumber after afterByte
 spaced-number-back n t f z = number-back n t f z
 
 module _ (n : ℕ) (t : List ℕ) (f : Fits n) where
   rpc-back : readFailure (at (ascii "rpc " ++ (decimal n ++ (ascii ")" ++ t)))) ≡ got (BalSkip.Rpc n) (at t)
-  unfolding readFailure wordText then map run inWord sameText after step
+  unfolding readFailure wordText then map run inWord sameText after afterByte
   rpc-back =
       let s = decimal n ++ (ascii ")" ++ t) in
       rw (says-back (ascii "rpc") (ascii " " ++ s) refl refl (ascii "rpc"), past-back (ascii "rpc") (ascii " " ++ s) refl refl, spaced-number-back n (ascii ")" ++ t) f refl)
 
   decode-back : readFailure (at (ascii "decode " ++ (decimal n ++ (ascii ")" ++ t)))) ≡ got (BalSkip.Decode n) (at t)
-  unfolding readFailure wordText then map run inWord sameText after step
+  unfolding readFailure wordText then map run inWord sameText after afterByte
   decode-back =
       let s = decimal n ++ (ascii ")" ++ t) in
       rw (says-back (ascii "decode") (ascii " " ++ s) refl refl (ascii "rpc"), says-back (ascii "decode") (ascii " " ++ s) refl refl (ascii "decode"), past-back (ascii "decode") (ascii " " ++ s) refl refl, spaced-number-back n (ascii ")" ++ t) f refl)
 
 -- a bracket is no word
 failed : (s : List ℕ) → readSkip (at (40 ∷ s)) ≡ readFailure (at s)
-unfolding readSkip wordText after step
+unfolding readSkip wordText after afterByte
 failed s = open-miss _ _ _ _ s ∙ open-miss _ _ _ _ s
 
 pub skip-back : (x : BalSkip) (t : List ℕ) → SkipFits x → run t ≡ 0 → readSkip (at (skipText x ++ t)) ≡ got x (at t)

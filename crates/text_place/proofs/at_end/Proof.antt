@@ -1,4 +1,4 @@
--- `text::place::at_end` meets its contract: on each way through its code the result is what the definition gives.
+-- `at_end` meets its contract: on each way through its code the result is what the definition gives.
 use borrow.Author.Needs.{needs}
 use Rattle.text.proofs.Places.{end-stopped, end-here}
 use Rattle.text_place.proofs.at_end.Statement.{statement}

@@ -1,4 +1,4 @@
--- `text::place::past` meets its contract: on each way through its code the result is what the definition gives.
+-- `past` meets its contract: on each way through its code the result is what the definition gives.
 use borrow.Author.Needs.{needs}
 use Rattle.text.proofs.Places.{past-stopped, past-none, past-end, past-short, past-on}
 use Rattle.text_place.proofs.past.Statement.{statement}

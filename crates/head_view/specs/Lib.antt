@@ -1,0 +1,2 @@
+-- Document 01, "Lifecycle": what `snapshot` reads.
+pub mod Views
