@@ -10,7 +10,7 @@ use Rattle.head_anchor.specs.Lists.{asPrepared}
 use Rattle.head_apply.specs.Apply.{apply, applyAs, settleAs}
 use Rattle.head_attempt.specs.Attempts.{firstEnd, publish, settled}
 use Rattle.head_current.specs.Heads.{anchorOf, delivery, ticketOf}
-use Rattle.head_report.specs.Reports.{lastReport}
+use Rattle.head_report.specs.Reports.{currentReport}
 use Rattle.head_completion.specs.Ends.{published, endAt}
 use Rattle.head_deliver.specs.Delivered.{unsettled, delivered, replaced}
 use Rattle.head_settle.specs.Settles.{abandonment, isAbandoned, settledHead, settlingEpoch, settle}
@@ -106,9 +106,9 @@ module _ {c₁ c₂ : CurrentHead} (w : SameHead c₁ c₂) where
   unfolding published
   same-published = same-of w published (λ held h k l t. refl) (λ held r k l t. refl)
 
-  pub same-report : lastReport c₁ ≡ lastReport c₂
-  unfolding lastReport
-  same-report = same-of w lastReport (λ held h k l t. refl) (λ held r k l t. refl)
+  pub same-report : currentReport c₁ ≡ currentReport c₂
+  unfolding currentReport
+  same-report = same-of w currentReport (λ held h k l t. refl) (λ held r k l t. refl)
 
   same-preparing : (a : ReadAnchor) → preparingAt c₁ a ≡ preparingAt c₂ a
   unfolding preparingAt

@@ -4,7 +4,7 @@ use mathlib.Core.Path.{refl, ap}
 use lib.Dec.{lit<}
 use Rattle.head_count.specs.Counters.{noneCounted}
 use Rattle.head_current.specs.Heads.{delivery}
-use Rattle.head_report.specs.Reports.{lastReport}
+use Rattle.head_report.specs.Reports.{currentReport}
 use Rattle.head_life.specs.State.{noHead}
 use Rattle.head_driver.specs.New.{new}
 use Rattle.head_step.specs.Steps.{step}
@@ -19,7 +19,7 @@ use Rattle.alike.specs.Runs.{AllWritable, after}
 use Rattle.alike.specs.Statements.{HoldsOfNew, Kept, SeqIsDelivered}
 
 pub holds-of-new : HoldsOfNew
-unfolding new noHead noneCounted delivery lastReport
+unfolding new noHead noneCounted delivery currentReport
 holds-of-new = record {
   ordered = record {
     seq-delivered = refl;

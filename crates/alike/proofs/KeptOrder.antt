@@ -12,7 +12,7 @@ use Rattle.head_anchor.specs.Lists.{applyPrepared, isLinked, isRead, outcome}
 use Rattle.head_attempt.specs.Attempts.{firstEnd, minted, publish, settled}
 use Rattle.head_count.specs.Counters.{nextEpoch, nextSeq, raise, seqOf, up}
 use Rattle.head_current.specs.Heads.{delivery}
-use Rattle.head_report.specs.Reports.{lastReport}
+use Rattle.head_report.specs.Reports.{currentReport}
 use Rattle.head_deliver.specs.Delivered.{unsettled, countDelivery, countReplaced, delivered, deliveredAt, newHead}
 use Rattle.head_settle.specs.Settles.{abandonment, settledHead, settlingEpoch, settle}
 use Rattle.head_claim.specs.Claimed.{claimedHead, claimed}
@@ -86,7 +86,7 @@ module _ (l : HeadLifecycle) (v : Ordered l) where
   next-delivered here = rw (count-delivered, v .seq-delivered) refl
 
   ordered-delivered : (here : Bool) (a : ReadAnchor) (p : Hash) (cold : ℕ) → holds (slotAnchor (l .installed)) a ≡ here → Ordered (deliveredAt here l a p cold)
-  unfolding newHead delivery lastReport minted settled
+  unfolding newHead delivery currentReport minted settled
   ordered-delivered true a p cold e = record {
     seq-delivered = next-delivered true;
     seq-current = refl;
@@ -125,7 +125,7 @@ module _ (l : HeadLifecycle) (v : Ordered l) where
   -- claim and release
 
   ordered-claimed : (u : UnsettledHead) → l .current ≡ CurrentHead.Unclaimed u → Ordered (claimed l (nextEpoch (l .«claim_epoch»)))
-  unfolding claimed claimedHead delivery lastReport nextEpoch
+  unfolding claimed claimedHead delivery currentReport nextEpoch
   ordered-claimed u q = rw q (record {
     seq-delivered = v .seq-delivered;
     seq-current = rw q at (v .seq-current);
@@ -145,7 +145,7 @@ module _ (l : HeadLifecycle) (v : Ordered l) where
   })
 
   ordered-released : (u : UnsettledHead) → l .current ≡ CurrentHead.Preparing u → Ordered (released l)
-  unfolding released releasedHead delivery lastReport publish firstEnd minted
+  unfolding released releasedHead delivery currentReport publish firstEnd minted
   ordered-released u q =
       let t : u .attempt ≡ minted (l .«claim_epoch») = rw q at (v .preparing-attempt) in
       rw q (record {
@@ -229,7 +229,7 @@ module _ (l : HeadLifecycle) (v : Ordered l) (held : HeadDelivery) (elsewhere : 
 
   ordered-settled : (p : Hash) (skip : BalSkip) (carried handle report : ℕ) → delivery (l .current) ≡ DeliverySlot.Held held
       → Ordered (settle l (held .anchor) (applyPrepared (slotAnchor (l .installed)) (held .anchor) p skip carried) handle report)
-  unfolding settle delivery lastReport
+  unfolding settle delivery currentReport
   ordered-settled p skip carried handle report h =
       let o = applyPrepared (slotAnchor (l .installed)) (held .anchor) p skip carried in
       let s = head-settles (l .current) refl h (settlingEpoch (l .current) (l .«claim_epoch»)) (LastReport.Made o report) in

@@ -118,7 +118,7 @@ settling-fits (CurrentHead.Unclaimed u) e f = by-if (λ (x : Epoch). Fits (x .0)
 settling-fits (CurrentHead.Preparing u) e f = f
 settling-fits (CurrentHead.Settled s) e f = f
 
-outcome-fits : (i : AnchorSlot) (a : ReadAnchor) (p : Hash) (skip : BalSkip) (carried : ℕ) → SkipFits skip → Fits carried → OutcomeFits (applyPrepared i a p skip carried)
+pub outcome-fits : (i : AnchorSlot) (a : ReadAnchor) (p : Hash) (skip : BalSkip) (carried : ℕ) → SkipFits skip → Fits carried → OutcomeFits (applyPrepared i a p skip carried)
 unfolding applyPrepared outcome
 outcome-fits i a p skip carried f g = by-if OutcomeFits (both (isLinked (classifyLink i a p)) (isRead skip)) _ _ (λ e. g) (λ e. f)
 

@@ -7,7 +7,7 @@ use Rattle.head_anchor.specs.Anchors.{holds}
 use Rattle.head_attempt.specs.Attempts.{minted}
 use Rattle.head_count.specs.Counters.{epochOf, nextEpoch, seqOf}
 use Rattle.head_current.specs.Heads.{anchorOf, delivery}
-use Rattle.head_report.specs.Reports.{lastReport}
+use Rattle.head_report.specs.Reports.{currentReport}
 use Rattle.head_completion.specs.Ends.{published}
 use Rattle.head_deliver.specs.Delivered.{deliveryOf}
 use Rattle.head_ready.specs.Generations.{slotAnchor}
@@ -102,8 +102,8 @@ rebuild Pose.Unclaimed held h t r = CurrentHead.Unclaimed (record { delivery = h
 rebuild Pose.Preparing held h t r = CurrentHead.Preparing (record { delivery = held; provisional = h; attempt = t })
 rebuild Pose.Settled held h t r = CurrentHead.Settled (record { delivery = held; report = r; attempt = t })
 
-rebuilt : (c : CurrentHead) → rebuild (pose c) (heldOf (delivery c)) (provisionalOf c) (attemptOf c) (lastReport c) ≡ c
-unfolding delivery lastReport
+rebuilt : (c : CurrentHead) → rebuild (pose c) (heldOf (delivery c)) (provisionalOf c) (attemptOf c) (currentReport c) ≡ c
+unfolding delivery currentReport
 rebuilt CurrentHead.Absent = refl
 rebuilt (CurrentHead.Unclaimed u) = refl
 rebuilt (CurrentHead.Preparing u) = refl
@@ -116,14 +116,14 @@ same-rebuilt Pose.Preparing held h t z r q e = rw (e refl) (SameHead.both-prepar
 same-rebuilt Pose.Settled held h t z r q e = rw q (SameHead.both-settled held r (t .epoch) (z .epoch) (z .end))
 
 -- heads that agree in these parts, a preparing one in its whole attempt, differ in nothing that can be told
-pub same-parts : (c₁ c₂ : CurrentHead) → pose c₁ ≡ pose c₂ → heldOf (delivery c₁) ≡ heldOf (delivery c₂) → provisionalOf c₁ ≡ provisionalOf c₂ → lastReport c₁ ≡ lastReport c₂
+pub same-parts : (c₁ c₂ : CurrentHead) → pose c₁ ≡ pose c₂ → heldOf (delivery c₁) ≡ heldOf (delivery c₂) → provisionalOf c₁ ≡ provisionalOf c₂ → currentReport c₁ ≡ currentReport c₂
     → attemptOf c₁ .end ≡ attemptOf c₂ .end → (pose c₁ ≡ Pose.Preparing → attemptOf c₁ ≡ attemptOf c₂) → SameHead c₁ c₂
 same-parts c₁ c₂ k held h r q e =
-    let z = same-rebuilt (pose c₁) (heldOf (delivery c₁)) (provisionalOf c₁) (attemptOf c₁) (attemptOf c₂) (lastReport c₁) q e in
+    let z = same-rebuilt (pose c₁) (heldOf (delivery c₁)) (provisionalOf c₁) (attemptOf c₁) (attemptOf c₂) (currentReport c₁) q e in
     let x = rebuilt c₁ in
     let y = rebuilt c₂ in
-    subst (SameHead c₁) y (subst (λ c. SameHead c (rebuild (pose c₂) (heldOf (delivery c₂)) (provisionalOf c₂) (attemptOf c₂) (lastReport c₂))) x
-    (subst (SameHead (rebuild (pose c₁) (heldOf (delivery c₁)) (provisionalOf c₁) (attemptOf c₁) (lastReport c₁))) (λ j. rebuild (k j) (held j) (h j) (attemptOf c₂) (r j)) z))
+    subst (SameHead c₁) y (subst (λ c. SameHead c (rebuild (pose c₂) (heldOf (delivery c₂)) (provisionalOf c₂) (attemptOf c₂) (currentReport c₂))) x
+    (subst (SameHead (rebuild (pose c₁) (heldOf (delivery c₁)) (provisionalOf c₁) (attemptOf c₁) (currentReport c₁))) (λ j. rebuild (k j) (held j) (h j) (attemptOf c₂) (r j)) z))
 
 pub published-end : (c : CurrentHead) → attemptOf c .end ≡ published c
 unfolding published minted

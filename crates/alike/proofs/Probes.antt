@@ -7,7 +7,7 @@ use Rattle.hash.specs.Logic.{if}
 use Rattle.head_attempt.specs.Attempts.{minted}
 use Rattle.head_count.specs.Counters.{nextSeq, seqOf, up}
 use Rattle.head_current.specs.Heads.{delivery}
-use Rattle.head_report.specs.Reports.{lastReport}
+use Rattle.head_report.specs.Reports.{currentReport}
 use Rattle.head_completion.specs.Ends.{published}
 use Rattle.head_ready.specs.Generations.{slotAnchor}
 use Rattle.head_report.specs.Report.{report}
@@ -110,9 +110,9 @@ module _ {d₁ d₂ : Driver} (w : Twin d₁ d₂) where
       let e : Answer.Heads (currentAnchor d₁) (installedAnchor d₁) (previousAnchor d₁) ≡ Answer.Heads (currentAnchor d₂) (installedAnchor d₂) (previousAnchor d₂) = twin-answer w Call.Heads tt in
       (cc, cc, cc)
 
-  pub probe-report : lastReport c₁ ≡ lastReport c₂
+  pub probe-report : currentReport c₁ ≡ currentReport c₂
   unfolding dispatch report
-  probe-report = let e : Answer.Report (lastReport c₁) ≡ Answer.Report (lastReport c₂) = twin-answer w Call.Report tt in cc
+  probe-report = let e : Answer.Report (currentReport c₁) ≡ Answer.Report (currentReport c₂) = twin-answer w Call.Report tt in cc
 
   pub probe-installed : d₁ .life .installed ≡ d₂ .life .installed
   unfolding dispatch

@@ -10,7 +10,7 @@ use Rattle.head_anchor.specs.Lists.{isLinked, isRead}
 use Rattle.head_attempt.specs.Attempts.{minted}
 use Rattle.head_count.specs.Counters.{seqOf}
 use Rattle.head_current.specs.Heads.{delivery}
-use Rattle.head_report.specs.Reports.{lastReport}
+use Rattle.head_report.specs.Reports.{currentReport}
 use Rattle.head_ready.specs.Generations.{settledReadiness, slotAnchor}
 use Rattle.head_anchor.specs.declared.CarryOutcome.{CarryOutcome}
 use Rattle.head_anchor.specs.declared.AnchorSlot.{AnchorSlot}
@@ -127,9 +127,9 @@ pub record Ordered (l : HeadLifecycle) : Type 0 where
   -- I8: installed and previous are ready, or cold with link and skip, at least one a fault; the same of an outcome in a report
   pub installed-readiness : WhenGeneration (l .installed) (λ g. FromApply (g .readiness))
   pub previous-readiness : WhenGeneration (l .previous) (λ g. FromApply (g .readiness))
-  pub report-readiness : WhenMade (lastReport (l .current)) (λ o. FromApply (settledReadiness o))
+  pub report-readiness : WhenMade (currentReport (l .current)) (λ o. FromApply (settledReadiness o))
   -- I9: a report's outcome gives the installed readiness
-  pub report-installed : WhenMade (lastReport (l .current)) (λ o. ReadinessIs (settledReadiness o) (l .installed))
+  pub report-installed : WhenMade (currentReport (l .current)) (λ o. ReadinessIs (settledReadiness o) (l .installed))
   -- I10: preparing or abandoned: epoch at least 1
   pub preparing-epoch : WhenPreparing (l .current) (λ u. 1 ≤ l .«claim_epoch» .0)
   pub abandoned-epoch : WhenUnclaimed (l .current) (λ u. u .attempt .end ≡ HeadCompletion.Abandoned → 1 ≤ l .«claim_epoch» .0)

@@ -36,7 +36,6 @@ use Rattle.head_report.specs.Reports
 use Rattle.head_stats.specs.Stats
 use Rattle.head_heads.specs.Heads as HeadsCall
 use Rattle.head_call.specs.Inputs
-use Rattle.head_call.specs.Tests
 use Rattle.head_step.specs.Dispatch
 use Rattle.head_step.specs.Steps
 use Rattle.text.specs.Decimals
@@ -73,7 +72,7 @@ anchors = tt
 unfoldable heads : Unit {0}
 unfolding Attempts.minted Attempts.settled Attempts.firstEnd Attempts.publish Counters.up Counters.nextSeq Counters.nextEpoch Counters.sameSeq Counters.sameEpoch
     Counters.noneCounted Counters.raise Counters.recordView Waiters.woken Waiters.wake Heads.delivery Heads.anchorOf Repeats.sameDelivery Repeats.repeatOf
-    Repeats.repeats Heads.ticketOf Ends.published Delivered.unsettled WaitCalls.preparingAt Reports.lastReport Claimed.claimedHead Owners.owns Owners.ownedBy
+    Repeats.repeats Heads.ticketOf Ends.published Delivered.unsettled WaitCalls.preparingAt Reports.currentReport Claimed.claimedHead Owners.owns Owners.ownedBy
     Released.releasedHead Settles.abandonment Settles.settlingEpoch Settles.settledHead DriverParts.wakeCurrent
 heads = tt
 
@@ -90,8 +89,8 @@ unfoldable calls : Unit {0}
 unfolding Said.readinessValue Said.sourceValue Said.endValue Said.reportValue Said.statsValues Said.outcomeSaid Said.said Deliver.deliver Claim.claim Release.release
     Snapshot.snapshot DriverParts.withLife Deliver.deliverAs Claim.claimAs Snapshot.viewed Apply.apply Apply.settleAs Apply.applyAs WaitCalls.wait
     WaitCalls.resume WaitCalls.unownedReason WaitCalls.unownedReadiness WaitCalls.unowned WaitCalls.abandonedView WaitCalls.waiterAt WaitCalls.put WaitCalls.viewedBy
-    WaitCalls.join WaitCalls.waitAs WaitCalls.resumeAs New.new Completion.completion Link.link Report.report Stats.stats HeadsCall.heads Tests.listRefusal
-    Tests.waiterRefusal Dispatch.dispatch Inputs.inputNumber Inputs.inputRefusal Steps.step
+    WaitCalls.join WaitCalls.waitAs WaitCalls.resumeAs New.new Completion.completion Link.link Report.report Stats.stats HeadsCall.heads Inputs.listRefusal
+    Inputs.waiterRefusal Dispatch.dispatch Inputs.inputNumber Inputs.inputRefusal Steps.step
 calls = tt
 
 -- words, decimals and hashes

@@ -83,6 +83,7 @@ table =
     ∷ (ascii "(claim (10 " ++ Y ++ ascii ") 2)" prints ascii "(claimed 1)\n")
     ∷ (ascii "(wait 0 (10 " ++ Y ++ ascii ") 52)" prints ascii "(parked)\n")
     ∷ (ascii "(release 2 1)" prints ascii "(done)\n")
+    ∷ (ascii "(claim (10 " ++ Y ++ ascii ") 2)" prints ascii "(claimed 2)\n")
     ∷ (ascii "(apply (10 " ++ Y ++ ascii ") 2 (10 " ++ Y ++ ascii ") none 61 1 91)" prints ascii "(settled (carried 1))\n")
     ∷ (ascii "(stats)" prints ascii "(stats 2 0 0 2 0 0 0 0)\n")
     ∷ (ascii "(resume 0 53)" prints ascii "(view spare 53 abandoned)\n")

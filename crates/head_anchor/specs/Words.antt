@@ -1,4 +1,4 @@
--- The words of document 01's lines, each named as it is written there.
+-- The words of document 01's answers, each named as it is written there.
 
 pub data Word : Type 0 where
   ticket claimed done settled view parked completion link report stats heads refused : Word

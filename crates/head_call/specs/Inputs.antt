@@ -1,7 +1,10 @@
 -- Document 01, "Turned away by the input": 2, list and anchor disagree on `no-hash`, is tested by `apply` only; 3, waiter number above 15, by `wait` and `resume` only. (1 and 4 are
 -- of lines and of the sheet's buffer.)
 use Prim.Native.Nat.{ℕ}
-use Rattle.head_call.specs.Tests.{listRefusal, waiterRefusal}
+use lib.Dec.{ltb}
+use Rattle.hash.specs.Logic.{if}
+use Rattle.head_anchor.specs.Lists.{asPrepared}
+use Rattle.head_anchor.specs.declared.PreparedBal.{PreparedBal}
 use Rattle.head_call.specs.declared.Call.{Call}
 use Rattle.head_call.specs.declared.InputRefusal.{InputRefusal}
 
@@ -10,6 +13,14 @@ unfoldable pub inputNumber : InputRefusal → ℕ
 inputNumber InputRefusal.Nothing = 0
 inputNumber InputRefusal.ListAtOdds = 2
 inputNumber InputRefusal.WaiterOutOfRange = 3
+
+-- 2 list and anchor disagree on `no-hash`
+unfoldable pub listRefusal : PreparedBal → InputRefusal
+listRefusal list = if (asPrepared list) InputRefusal.Nothing InputRefusal.ListAtOdds
+
+-- 3 waiter number above 15
+unfoldable pub waiterRefusal : ℕ → InputRefusal
+waiterRefusal n = if (ltb n 16) InputRefusal.Nothing InputRefusal.WaiterOutOfRange
 
 unfoldable pub inputRefusal : Call → InputRefusal
 inputRefusal (Call.Deliver a p cold) = InputRefusal.Nothing

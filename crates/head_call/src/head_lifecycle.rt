@@ -1,7 +1,6 @@
 // Which calls their input alone turns away. The Rust has a method for each call, and such input cannot be made there.
 ghost use mathlib.Core.Path.{_≡_};
-ghost use Rattle.head_call.specs.Inputs.{inputNumber, inputRefusal};
-ghost use Rattle.head_call.specs.Tests.{listRefusal, waiterRefusal};
+ghost use Rattle.head_call.specs.Inputs.{inputNumber, inputRefusal, listRefusal, waiterRefusal};
 use crate::Call;
 use crate::InputRefusal;
 use head_anchor::PreparedBal;

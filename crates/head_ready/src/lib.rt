@@ -1,4 +1,4 @@
-// Readiness, and the generations that have it: what is installed, and what was installed before it.
+// Readiness, the generations that have it (what is installed, and what was installed before it), views, and the outcome of a claim or an apply.
 // Knows nothing of the current head, of the counters or of waiters.
 use head_anchor::BalSkip;
 use head_anchor::CarryOutcome;

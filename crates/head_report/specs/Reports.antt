@@ -3,8 +3,8 @@ use Rattle.head_current.specs.declared.CurrentHead.{CurrentHead}
 use Rattle.head_current.specs.declared.LastReport.{LastReport}
 
 -- what the current head's own apply gave, else none: `CurrentHead::report`
-unfoldable pub lastReport : CurrentHead → LastReport
-lastReport CurrentHead.Absent = LastReport.Nothing
-lastReport (CurrentHead.Unclaimed u) = LastReport.Nothing
-lastReport (CurrentHead.Preparing u) = LastReport.Nothing
-lastReport (CurrentHead.Settled s) = s .report
+unfoldable pub currentReport : CurrentHead → LastReport
+currentReport CurrentHead.Absent = LastReport.Nothing
+currentReport (CurrentHead.Unclaimed u) = LastReport.Nothing
+currentReport (CurrentHead.Preparing u) = LastReport.Nothing
+currentReport (CurrentHead.Settled s) = s .report

@@ -2,7 +2,7 @@
 ghost use mathlib.Core.Path.{_≡_};
 ghost use Rattle.head_driver.specs.Answers.{Replies};
 ghost use Rattle.head_report.specs.Report.{report};
-ghost use Rattle.head_report.specs.Reports.{lastReport};
+ghost use Rattle.head_report.specs.Reports.{currentReport};
 use head_current::CurrentHead;
 use head_current::LastReport;
 use head_driver::Answer;
@@ -10,8 +10,8 @@ use head_driver::Driver;
 use head_driver::Reply;
 use head_driver::head_lifecycle::answered;
 
-pub(crate) fn last_report(current: CurrentHead) -> LastReport
-    ensures { λ r. ⌜ r ≡ lastReport current ⌝ }
+pub(crate) fn current_report(current: CurrentHead) -> LastReport
+    ensures { λ r. ⌜ r ≡ currentReport current ⌝ }
 {
     match current {
         CurrentHead::Absent => return LastReport::Nothing,
@@ -26,5 +26,5 @@ pub fn report(d: Driver) -> Reply
 {
     let life = d.life;
     let current = life.current;
-    answered(d, Answer::Report(last_report(current)))
+    answered(d, Answer::Report(current_report(current)))
 }

@@ -1,2 +1,2 @@
--- Document 01, "Lifecycle": `snapshot`.
+-- Document 01, "Lifecycle": `snapshot`. All of it is the paper's.
 pub mod Snapshot

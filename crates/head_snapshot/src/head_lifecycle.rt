@@ -8,7 +8,7 @@ use head_driver::Driver;
 use head_driver::Reply;
 use head_driver::head_lifecycle::answered;
 use head_ready::HeadView;
-use head_view::head_lifecycle::lookup;
+use head_view::head_lifecycle::view_at;
 use view_count::head_lifecycle::count_view;
 
 // Counts the view and answers what is shown of it.
@@ -23,6 +23,6 @@ pub fn viewed(mut d: Driver, view: HeadView, shown: HeadView) -> Reply
 pub fn snapshot(d: Driver, anchor: ReadAnchor, spare: u64) -> Reply
     ensures { λ r. ⌜ Replies r (snapshot d anchor spare) ⌝ }
 {
-    let view = lookup(d.life, anchor, spare);
+    let view = view_at(d.life, anchor, spare);
     viewed(d, view, view)
 }

@@ -11,8 +11,7 @@ use Rattle.head_driver.specs.declared.Answer.{Answer}
 use Rattle.head_driver.specs.declared.Driver.{Driver}
 use Rattle.head_driver.specs.declared.Reply.{Reply}
 use Rattle.head_step.specs.Dispatch.{dispatch}
-use Rattle.head_call.specs.Tests.{listRefusal, waiterRefusal}
-use Rattle.head_call.specs.Inputs.{inputRefusal}
+use Rattle.head_call.specs.Inputs.{inputRefusal, listRefusal, waiterRefusal}
 use Rattle.head_step.specs.Steps.{step, stepPast}
 use Rattle.head_call.specs.declared.Call.{Call}
 use Rattle.head_call.specs.declared.InputRefusal.{InputRefusal}

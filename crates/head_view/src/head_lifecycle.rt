@@ -88,7 +88,7 @@ pub(crate) fn current_view(current: CurrentHead, anchor: ReadAnchor, other: Head
 }
 
 // What a snapshot at that anchor reads, first that fits. `spare` is the handle of a cold generation that the host made for this call.
-pub fn lookup(life: HeadLifecycle, anchor: ReadAnchor, spare: u64) -> HeadView
+pub fn view_at(life: HeadLifecycle, anchor: ReadAnchor, spare: u64) -> HeadView
     ensures { λ r. ⌜ r ≡ view life anchor spare ⌝ }
 {
     let superseded = life.superseded;

@@ -39,7 +39,7 @@ unownedReadiness (HeadReadiness.Cold reason) = HeadReadiness.Cold (unownedReason
 unfoldable pub unowned : HeadView → HeadView
 unowned v = viewOf (v .source) (v .handle) (unownedReadiness (v .readiness))
 
--- the snapshot with reason `abandoned`; if that snapshot was ready, the spare handle is given with source `spare`: `BalHeadDriver::abandoned_view`
+-- the snapshot with reason `abandoned`; if that snapshot was ready, the spare handle is given with source `spare`, yet ready-views rises (`viewedBy` counts the snapshot): `BalHeadDriver::abandoned_view`
 unfoldable pub abandonedView : HeadView → ℕ → HeadView
 abandonedView v spare =
     if (isReady (v .readiness))

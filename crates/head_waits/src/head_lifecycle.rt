@@ -22,7 +22,7 @@ use head_ready::HeadReadiness;
 use head_ready::HeadView;
 use head_ready::Source;
 use head_snapshot::head_lifecycle::viewed;
-use head_view::head_lifecycle::lookup;
+use head_view::head_lifecycle::view_at;
 
 pub(crate) fn unowned_reason(reason: HeadCold) -> HeadCold
     ensures { λ r. ⌜ r ≡ unownedReason reason ⌝ }
@@ -128,7 +128,7 @@ pub(crate) fn join(d: Driver, n: u64, anchor: ReadAnchor, spare: u64) -> Reply
     if preparing_at(d.life, anchor) {
         return park(d, n);
     }
-    let view = lookup(d.life, anchor, spare);
+    let view = view_at(d.life, anchor, spare);
     viewed_by(d, n, view, unowned(view))
 }
 
@@ -164,7 +164,7 @@ pub fn wait(d: Driver, n: u64, anchor: ReadAnchor, spare: u64) -> Reply
 pub(crate) fn view_abandoned(d: Driver, n: u64, anchor: ReadAnchor, spare: u64) -> Reply
     ensures { λ r. ⌜ r ≡ resumeAs d (Waiter.Abandoned anchor) n spare ⌝ }
 {
-    let view = lookup(d.life, anchor, spare);
+    let view = view_at(d.life, anchor, spare);
     viewed_by(d, n, view, abandoned_view(view, spare))
 }
 

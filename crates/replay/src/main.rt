@@ -20,9 +20,9 @@ use libc::STDOUT_FILENO;
 use pending::keep;
 use script::finish;
 use text::place::Place;
-use text::word::same;
 use text_decimal::take_decimal;
 use text_put::put::put;
+use text_same::same;
 
 // What was counted.
 struct Tally {

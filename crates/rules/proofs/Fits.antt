@@ -1,18 +1,17 @@
 -- Every number that a call is answered with is below 2^64, and so is every word of its hashes, where the driver's and the call's own are.
 use Prim.Native.Nat.{ℕ}
 use lib.Dec.{ltb}
+use Rattle.alike.proofs.KeptRanges.{outcome-fits}
 use Rattle.alike.proofs.Tests.{by-if, up-fits}
 use Rattle.alike.specs.Ranges as A
 use Rattle.head_call.specs.Ranges.{Writable}
 use Rattle.answer_back.specs.Ranges.{AnswerFits, HeadOutcomeFits}
-use Rattle.hash.specs.Logic.{both}
 use Rattle.head_anchor.specs.Anchors.{holds, sameAnchor}
-use Rattle.head_anchor.specs.Links.{classifyLink}
-use Rattle.head_anchor.specs.Lists.{applyPrepared, asPrepared, isLinked, isRead, outcome}
+use Rattle.head_anchor.specs.Lists.{asPrepared}
 use Rattle.head_apply.specs.Apply.{apply, applyAs, settleAs}
 use Rattle.head_count.specs.Counters.{nextEpoch, nextSeq}
 use Rattle.head_current.specs.Heads.{anchorOf, delivery, ticketOf}
-use Rattle.head_report.specs.Reports.{lastReport}
+use Rattle.head_report.specs.Reports.{currentReport}
 use Rattle.head_deliver.specs.Repeats.{repeatOf, repeats, sameDelivery}
 use Rattle.head_release.specs.Owners.{ownedBy}
 use Rattle.head_claim.specs.Claim.{claim, claimAs}
@@ -34,7 +33,7 @@ use Rattle.head_view.specs.Views.{currentView, generationView, provisionalView,
 use Rattle.head_waits.specs.Calls.{abandonedView, join, preparingAt, resume, resumeAs, unowned, unownedReadiness, unownedReason, viewedBy, wait, waitAs, waiterAt}
 use Rattle.head_ready.specs.Ranges.{ColdFits, GenerationSlotFits, ReadinessFits}
 use Rattle.hash.specs.Ranges.{Fits}
-use Rattle.head_anchor.specs.Ranges.{AnchorFits, OutcomeFits, SkipFits, SlotFits}
+use Rattle.head_anchor.specs.Ranges.{AnchorFits, SkipFits, SlotFits}
 use Rattle.head_current.specs.Ranges.{DeliveryFits, HeadFits, ReportFits, UnsettledFits}
 use Rattle.hash.specs.declared.Hash.{Hash}
 use Rattle.head_anchor.specs.declared.BalSkip.{BalSkip}
@@ -85,12 +84,12 @@ unfolding slotAnchor
 slot-fits GenerationSlot.Nothing f = tt
 slot-fits (GenerationSlot.Held g) f = f .anchor
 
-last-report-fits : (c : CurrentHead) → HeadFits c → ReportFits (lastReport c)
-unfolding lastReport
-last-report-fits CurrentHead.Absent f = tt
-last-report-fits (CurrentHead.Unclaimed u) f = tt
-last-report-fits (CurrentHead.Preparing u) f = tt
-last-report-fits (CurrentHead.Settled s) f = f .report
+current-report-fits : (c : CurrentHead) → HeadFits c → ReportFits (currentReport c)
+unfolding currentReport
+current-report-fits CurrentHead.Absent f = tt
+current-report-fits (CurrentHead.Unclaimed u) f = tt
+current-report-fits (CurrentHead.Preparing u) f = tt
+current-report-fits (CurrentHead.Settled s) f = f .report
 
 -- ---- deliver
 
@@ -143,10 +142,6 @@ plan-fits i (DeliverySlot.Held held) ticket list f t l =
     by-if PlanFits (ticketOf held ticket) _ _
     (λ e. by-if PlanFits (sameAnchor list (held .anchor)) _ _ (λ e. by-if PlanFits (holds i (held .anchor)) _ _ (λ e. tt) (λ e. tt)) (λ e. (l, h)))
     (λ e. h)
-
-outcome-fits : (i : AnchorSlot) (a : ReadAnchor) (p : Hash) (skip : BalSkip) (carried : ℕ) → SkipFits skip → Fits carried → OutcomeFits (applyPrepared i a p skip carried)
-unfolding applyPrepared outcome
-outcome-fits i a p skip carried f g = by-if OutcomeFits (both (isLinked (classifyLink i a p)) (isRead skip)) _ _ (λ e. g) (λ e. f)
 
 applied-fits : (d : Driver) (skip : BalSkip) (handle carried report : ℕ) (plan : ApplyPlan) → SkipFits skip → Fits carried → PlanFits plan → Replied (applyAs d skip handle carried report plan)
 unfolding applyAs settleAs
@@ -243,7 +238,7 @@ dispatch-fits d (Call.Wait n a spare) f r = by-if Replied (ltb n 16) _ _ (λ e. 
 dispatch-fits d (Call.Resume n spare) f r = by-if Replied (ltb n 16) _ _ (λ e. resume-fits d (waiterAt (d .waiters) n) n spare f (r .1)) (λ e. tt)
 dispatch-fits d (Call.Completion a) f r = tt
 dispatch-fits d (Call.Link parent child p) f r = tt
-dispatch-fits d Call.Report f r = last-report-fits (d .life .current) (f .life .current)
+dispatch-fits d Call.Report f r = current-report-fits (d .life .current) (f .life .current)
 dispatch-fits d Call.Stats f r = f .life .stats
 dispatch-fits d Call.Heads f r = (current-fits (delivery (d .life .current)) (delivery-fits (d .life .current) (f .life .current)), slot-fits (d .life .installed) (f .life .installed), slot-fits (d .life .previous) (f .life .previous))
 

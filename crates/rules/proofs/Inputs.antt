@@ -21,9 +21,8 @@ use Rattle.head_driver.specs.declared.Driver.{Driver}
 use Rattle.script_call.specs.declared.LineCall.{LineCall}
 use Rattle.rules.specs.Inputs.{EndsInFeed, InputsRule, alone, empty, ended, lastSheet, driverLeftBy}
 use Rattle.rules.specs.Runs.{after}
-use Rattle.rules.specs.Statements.{CountersBelow, TellingBelow}
 use Rattle.rules.proofs.Lines.{lines-keep}
-use Rattle.rules.proofs.Rule.{kept-answers-tell-sheets, kept-sheets-tell-answers}
+use Rattle.rules.proofs.Rule.{kept-answers-tell-sheets, kept-sheets-tell-answers, telling}
 
 -- ---- lines one after another
 
@@ -75,9 +74,6 @@ last-sheet input e =
 
 brought : (input : List ℕ) → Invariant (driverLeftBy input)
 brought input = lines-keep new (map alone (lines input)) holds-of-new
-
-telling : {d : Driver} → CountersBelow d → TellingBelow d
-telling b = record { delivered-below = b .delivered; epoch-below = b .epoch }
 
 pub inputs-rule : InputsRule
 inputs-rule first second e₁ e₂ b₁ b₂ = (

@@ -43,7 +43,7 @@ answers-tell-sheets first second buffer₁ buffer₂ h₁ h₂ b₁ b₂ s =
     let d₂ = after new second in
     sheet-is-text d₁ buffer₁ h₁ ∙ kept-answers-tell-sheets d₁ d₂ (brought first) (brought second) b₁ b₂ s ∙ sym (sheet-is-text d₂ buffer₂ h₂)
 
-telling : {d : Driver} → CountersBelow d → TellingBelow d
+pub telling : {d : Driver} → CountersBelow d → TellingBelow d
 telling b = record { delivered-below = b .delivered; epoch-below = b .epoch }
 
 pub sheet-rule : SheetRule

@@ -49,7 +49,7 @@ module _ (d : Driver) (pending₀ : List ℕ) (held : ℕ) (input out₀ : List 
 
   module _ (t : Bool) (e : t ≡ usable (length pending₀) held (length out₀)) where
     pub not-usable : not t ≡ true → TakesSome (reading d pending₀ held) (reading d pending₀ held) input out₀ out₀ first
-    not-usable is = record { within = omega arith; feeds = feeds-none (reading d pending₀ held) out₀; fits = omega arith; stops = inr (inr (sym e ∙ not-true t is)) }
+    not-usable is = record { within = omega arith; feeds = feeds-none (reading d pending₀ held) out₀; fits = omega arith; stops = inr (inr (sym e ∙ not-true t is, refl)) }
 
     pub going-first : not t ≡ false → Going pending₀ out₀ first
     going-first is = record {

@@ -93,4 +93,4 @@ pub record TakesSome (s t : Reading) (input old new : List ℕ) (r : Fed) : Type
   pub within : r .taken ≤ length input
   pub feeds : Feeds s (take (r .taken) input) t old new 0 (r .written)
   pub fits : r .written ≤ length old
-  pub stops : (r .taken ≡ length input) ⊎ ((length old < r .written + 4096) ⊎ (lent s old ≡ false))
+  pub stops : (r .taken ≡ length input) ⊎ ((length old < r .written + 4096) ⊎ ((lent s old ≡ false) × (r .taken ≡ 0)))

@@ -9,7 +9,7 @@ ghost use Rattle.text.specs.Writes.{Wrote};
 use crate::lines::put_claimed;
 use crate::lines::put_ticket;
 use crate::lines::put_view;
-use crate::refusals::put_head_outcome;
+use crate::outcomes::put_head_outcome;
 use head_driver::Answer;
 use script_reads::put_read;
 use script_value::buffer::Written;
@@ -17,7 +17,7 @@ use text_put::put::put;
 use text_put::put::put_byte;
 
 mod lines;
-mod refusals;
+mod outcomes;
 
 // What a line is answered with. A sheet stands in the caller's buffer, this many bytes of it, and has no answer line.
 pub enum LineAnswer {
@@ -27,7 +27,7 @@ pub enum LineAnswer {
     Sheet(usize),
 }
 
-// No answer is longer than `heads`; the rest of the room is for answers to come.
+// No answer is longer than `heads`, 271 bytes; every one has the room that a host is asked for, but for the line feed.
 pub(crate) fn put_text(buf: &mut [u8], at: usize, answer: Answer) -> usize
     requires { ⌜ at + 511 ≤ length (now buf) ⌝ }
     ensures { λ r. ⌜ Wrote (now (buf .entry)) (now (buf .exit)) at r (answerText answer) ⌝ }

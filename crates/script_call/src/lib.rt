@@ -17,10 +17,10 @@ use head_current::HeadTicket;
 use head_current::PrepareClaim;
 use line_word::word_from;
 use text::place::Place;
-use text::word::same;
 use text_place::at_end;
 use text_place::past;
 use text_place::past_byte;
+use text_same::same;
 
 mod anchor;
 mod skip;

@@ -7,9 +7,9 @@ use crate::spaced::spaced_number;
 use head_anchor::BalSkip;
 use line_word::word_from;
 use text::place::Place;
-use text::word::same;
 use text_place::past;
 use text_place::past_byte;
+use text_same::same;
 
 // A skip and the place after it; none where reading has stopped.
 pub struct SkipFrom {

@@ -1,4 +1,4 @@
-// What parts the values of a call, the word for no value, and numbers and hashes, each after one space.
+// The word for no value, and numbers and hashes, each after one space.
 ghost use mathlib.Core.Path.{_≡_};
 ghost use Rattle.hash_text.specs.Reads.{readHash};
 ghost use Rattle.script_call.specs.Values.{spacedHash};
@@ -12,10 +12,10 @@ use hash_text::HashWord;
 use line_word::word_from;
 use text::decimal::NumberFrom;
 use text::place::Place;
-use text::word::same;
 use text_decimal::take_decimal;
 use text_place::past;
 use text_place::past_byte;
+use text_same::same;
 
 // A hash and the place after it; all zeros where reading has stopped.
 pub struct HashFrom {

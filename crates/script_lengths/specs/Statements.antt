@@ -1,4 +1,4 @@
--- No answer's line and no sheet is longer than its room. A decimal has at most 20 digits whatever the number, so no statement asks for a range.
+-- No answer's line and no sheet is longer than its room. A decimal has at most 20 digits whatever the number, so a length asks for no range.
 use Prim.Native.Nat.{_≤_}
 use mathlib.Core.Path.{_≡_}
 use lib.ListN.{length}

@@ -13,9 +13,9 @@ use head_current::LastReport;
 use link_text::put_fault;
 use script_report::put_report;
 use script_value::counters::put_stats;
+use slot_text::put_slot;
 use text_put::put::put;
 use text_put::put::put_byte;
-use value_text::anchor::put_slot;
 use value_text::page::Page;
 
 pub(crate) fn put_completion(buf: &mut [u8], at: usize, end: HeadCompletion) -> usize

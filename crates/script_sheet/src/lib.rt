@@ -14,7 +14,7 @@ mod life;
 mod lines;
 mod mask;
 
-// No sheet is longer than 2,908 bytes; the rest of the room is for what sheets will show.
+// 2,908 counts 20 digits for each waiter's number; no sheet is longer than 2,610 bytes (`script_lengths`).
 pub(crate) fn put_lines(buf: &mut [u8], d: Driver) -> usize
     requires { ⌜ 4096 ≤ length (now buf) ⌝ }
     ensures { λ r. ⌜ Wrote (now (buf .entry)) (now (buf .exit)) 0 r (sheetText d) ⌝ }

@@ -16,8 +16,8 @@ use head_ready::GenerationSlot;
 use sheet_generations::put_generations;
 use sheet_lines::put_current;
 
-// Puts the lines after the counters'. Only the superseded anchor is looked at before its line is put.
-pub(crate) fn put_heads(
+// Puts the lines after the counters'. All are put as they are stored but for the superseded anchor.
+pub(crate) fn put_after_count(
     buf: &mut [u8],
     at: usize,
     current: CurrentHead,
@@ -35,7 +35,7 @@ pub(crate) fn put_heads(
     put_generations(buf, j, installed, previous)
 }
 
-// Puts what the sheet shows of a lifecycle. Attempt epochs and the heads' numbers are nowhere written.
+// Puts what the sheet shows of a lifecycle. Attempt epochs and the head's seq are not written.
 pub(crate) fn put_life(buf: &mut [u8], at: usize, life: HeadLifecycle) -> usize
     requires { ⌜ at + 892 ≤ length (now buf) ⌝ }
     ensures { λ r. ⌜ Wrote (now (buf .entry)) (now (buf .exit)) at r (lifeLines (shownLife life)) ⌝ }
@@ -48,5 +48,5 @@ pub(crate) fn put_life(buf: &mut [u8], at: usize, life: HeadLifecycle) -> usize
     let installed = life.installed;
     let previous = life.previous;
     let i = put_count(buf, at, stats, epoch);
-    put_heads(buf, i, current, stored, installed, previous)
+    put_after_count(buf, i, current, stored, installed, previous)
 }

@@ -8,8 +8,8 @@ use head_count::Epoch;
 use head_count::HeadStats;
 use script_value::counters::put_spaced;
 use script_value::counters::put_stats;
+use slot_text::put_slot;
 use text_put::put::put;
-use value_text::anchor::put_slot;
 use value_text::page::Page;
 
 // Puts the eight counters, then the epoch.

@@ -1,4 +1,4 @@
-// What a sheet shows of the superseded anchor: nothing where no answer tells it from the current or the previous one.
+// What a sheet shows of the superseded anchor: `none` where it is the current one, or the previous one under a settled head, since no answer tells it then.
 ghost use mathlib.Core.Path.{_≡_};
 ghost use Rattle.alike.specs.Canon.{isSettled, masked, shownSuperseded};
 use hash::both;

@@ -1,8 +1,7 @@
-// The tokenizer, and the comparison of a word with a keyword.
+// The tokenizer.
 ghost use mathlib.Core.Path.{_≡_};
 ghost use lib.ListN.{drop};
 ghost use Rattle.text.specs.Words.{inWord, word};
-ghost use Rattle.text.specs.Same.{sameText};
 
 pub(crate) fn in_word(b: u8) -> bool
     ensures { λ r. ⌜ r ≡ inWord b ⌝ }
@@ -34,21 +33,4 @@ pub fn next_word(line: &[u8], at: usize) -> &[u8]
         end += 1;
     }
     &line[at..end]
-}
-
-// Whether a word is a keyword. The lengths are compared first, so that a chain of keywords is passed quickly.
-pub fn same(a: &[u8], b: &[u8]) -> bool
-    ensures { λ r. ⌜ r ≡ sameText (now (a .entry)) (now (b .entry)) ⌝ }
-{
-    if a.len() != b.len() {
-        return false;
-    }
-    let mut i = 0;
-    while i < a.len() {
-        if a[i] != b[i] {
-            return false;
-        }
-        i += 1;
-    }
-    true
 }

@@ -1,11 +1,10 @@
 // Anchors as text.
 ghost use Prim.Native.Nat.{_+_, _≤_};
 ghost use lib.ListN.{length};
-ghost use Rattle.value_text.specs.Texts.{blockHashText, anchorText, slotText};
+ghost use Rattle.value_text.specs.Texts.{blockHashText, anchorText};
 ghost use Rattle.text.specs.Writes.{Wrote};
 use crate::page::Page;
 use crate::page::put_hash_on;
-use head_anchor::AnchorSlot;
 use head_anchor::BlockHash;
 use head_anchor::ReadAnchor;
 use number_text::put_decimal;
@@ -36,16 +35,4 @@ pub fn put_anchor(buf: &mut [u8], at: usize, page: Page, anchor: ReadAnchor) -> 
     let k = put_byte(buf, j, b' ');
     let l = put_block_hash(buf, k, page, hash);
     put_byte(buf, l, b')')
-}
-
-// Puts an anchor, or `none`.
-pub fn put_slot(buf: &mut [u8], at: usize, page: Page, slot: AnchorSlot) -> usize
-    requires { ⌜ at + 87 ≤ length (now buf) ⌝ }
-    ensures { λ r. ⌜ Wrote (now (buf .entry)) (now (buf .exit)) at r (slotText page slot) ⌝ }
-    ensures { λ r. ⌜ r ≤ at + 87 ⌝ }
-{
-    match slot {
-        AnchorSlot::Nothing => put(buf, at, b"none"),
-        AnchorSlot::At(anchor) => put_anchor(buf, at, page, anchor),
-    }
 }

@@ -1,5 +1,5 @@
 -- `head_call::head_lifecycle::list_refusal` meets its contract: on each way through its code the result is what the definition gives.
-use Rattle.head_call.specs.Tests.{listRefusal}
+use Rattle.head_call.specs.Inputs.{listRefusal}
 use Rattle.head_call.proofs.head_lifecycle.list_refusal.Statement.{statement}
 use Rattle.head_call.proofs.head_lifecycle.list_refusal.Tie as tie
 

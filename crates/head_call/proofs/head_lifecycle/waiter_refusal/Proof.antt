@@ -1,6 +1,6 @@
 -- `head_call::head_lifecycle::waiter_refusal` meets its contract: on each way through its code the result is what the definition gives.
 use borrow.Author.Tests.{lt-ltb, le-ltb}
-use Rattle.head_call.specs.Tests.{waiterRefusal}
+use Rattle.head_call.specs.Inputs.{waiterRefusal}
 use Rattle.head_call.proofs.head_lifecycle.waiter_refusal.Statement.{statement}
 use Rattle.head_call.proofs.head_lifecycle.waiter_refusal.Tie as tie
 

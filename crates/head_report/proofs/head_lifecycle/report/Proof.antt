@@ -9,4 +9,4 @@ unfolding report
 report-spec = tie.close (tie.spec
     (λ c κs. tt)
     (λ c κs. tt)
-    (λ c. replied (rw (← c .before .last-report .ensures, ← c .answered .ensures))))
+    (λ c. replied (rw (← c .before .current-report .ensures, ← c .answered .ensures))))

@@ -8,4 +8,4 @@ unfolding snapshot
 snapshot-spec = tie.close (tie.spec
     (λ c κs. tt)
     (λ c κs. tt)
-    (λ c. replied (rw (← c .before .lookup .ensures, ← c .viewed .ensures))))
+    (λ c. replied (rw (← c .before .view-at .ensures, ← c .viewed .ensures))))

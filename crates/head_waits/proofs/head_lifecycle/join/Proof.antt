@@ -12,4 +12,4 @@ join-spec = tie.close (tie.spec
     (λ c κs. tt)
     (λ c κs. tt)
     (λ c κs. tt)
-    (λ c. rw (← c .before .before .before .before .preparing-at .ensures, c .before .before .before .if1 .left, ← c .before .before .lookup .ensures, ← c .before .unowned .ensures, ← c .viewed-by .ensures)))
+    (λ c. rw (← c .before .before .before .before .preparing-at .ensures, c .before .before .before .if1 .left, ← c .before .before .view-at .ensures, ← c .before .unowned .ensures, ← c .viewed-by .ensures)))

@@ -9,4 +9,4 @@ view-abandoned-spec = tie.close (tie.spec
     (λ c κs. tt)
     (λ c κs. tt)
     (λ c κs. tt)
-    (λ c. rw (← c .before .before .lookup .ensures, ← c .before .abandoned-view .ensures, ← c .viewed-by .ensures)))
+    (λ c. rw (← c .before .before .view-at .ensures, ← c .before .abandoned-view .ensures, ← c .viewed-by .ensures)))
