@@ -7,8 +7,8 @@ use borrow.Author.Tests.{le-ltb}
 use Rattle.driver.specs.Turns.{made, sheetAnswer, turnOf}
 use Rattle.head_driver.specs.New.{new}
 use Rattle.head_step.specs.Steps.{step}
-use Rattle.rules.proofs.Feeds.{sheet-wrote}
-use Rattle.rules.specs.Sheets.{toLastFeed, wroteOf}
+use Rattle.rules.proofs.LineFeeds.{sheet-wrote}
+use Rattle.rules.specs.Sheets.{toLastLineFeed, wroteOf}
 use Rattle.script_answer.specs.Answers.{answerLine, lineText}
 use Rattle.script_call.specs.Calls.{call}
 use Rattle.script_sheet.specs.Sheets.{sheetText}
@@ -49,7 +49,7 @@ module _ (buffer : List ℕ) (room : 4096 ≤ length buffer) where
   sheet-plain d = rw (no-line d) (sheet-wrote d buffer room)
 
   printed-plain : (d : Driver) (q : LineCall) → printed buffer d q ≡ plain d q
-  unfolding printed plain turnOf made lineText wroteOf toLastFeed
+  unfolding printed plain turnOf made lineText wroteOf toLastLineFeed
   printed-plain d LineCall.NoCall = refl
   printed-plain d LineCall.Sheet = sheet-plain d
   printed-plain d (LineCall.Make c) = append-nil (answerLine (step d c .answer))

@@ -3,7 +3,7 @@ use Prim.Native.Nat.{ℕ}
 use mathlib.Core.List.{List, [], _∷_, _++_}
 use Rattle.driver.specs.Turns.{sheetAfter, turnOf}
 use Rattle.script_answer.specs.Answers.{lineText}
-use Rattle.rules.specs.Sheets.{toLastFeed, wroteOf}
+use Rattle.rules.specs.Sheets.{toLastLineFeed, wroteOf}
 use Rattle.script_call.specs.Calls.{call}
 use Rattle.head_driver.specs.declared.Driver.{Driver}
 use Rattle.script_call.specs.declared.LineCall.{LineCall}
@@ -15,7 +15,7 @@ pub record Line : Type 0 where
 
 -- the answer's line; of `(sheet)`, what it writes into the sheet buffer, up to its last line feed
 unfoldable pub printed : List ℕ → Driver → LineCall → List ℕ
-printed buffer d q = lineText (turnOf d q buffer .answer) ++ toLastFeed (wroteOf (turnOf d q buffer .answer) (sheetAfter d q buffer))
+printed buffer d q = lineText (turnOf d q buffer .answer) ++ toLastLineFeed (wroteOf (turnOf d q buffer .answer) (sheetAfter d q buffer))
 
 -- what the lines of a run print, each line given the driver that the one before it left
 unfoldable pub printedBy : List ℕ → Driver → List Line → List (List ℕ)

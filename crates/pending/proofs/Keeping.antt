@@ -1,4 +1,4 @@
--- The steps of `feed_among`, `past_blocks`, `feed_at`, `hold` and `keep`.
+-- The steps of `line_feed_among`, `past_blocks`, `line_feed_at`, `hold` and `keep`.
 use Prim.Native.Nat.{ℕ, suc, _+_, _-_, _≤_, _<_}
 use native.Mathlib.Nat.{add-zero, add-suc, suc-add}
 use native.Mathlib.Numerals.{add-one}
@@ -13,32 +13,32 @@ use lib.Seq.{drop-cons, drop-drop, length-take-le, sets, take-all, take-append-s
 use borrow.Author.Tests.{eq-eqb, ne-eqb, ltb-true, ltb-false}
 use Rattle.hash.specs.Logic.{if}
 use Rattle.text.specs.Writes.{Wrote}
-use Rattle.pending.specs.Kept.{Keeps, part, hasFeed, keepAll, keepByte, roomFor, throughFeed, toFeed}
-use Rattle.pending.proofs.Feeds.{feed-front, feed-not-there, feed-there, no-feed, through-feed, to-feed-past}
+use Rattle.pending.specs.Kept.{Keeps, part, hasLineFeed, keepAll, keepByte, roomFor, throughLineFeed, toLineFeed}
+use Rattle.pending.proofs.LineFeeds.{feed-front, feed-not-there, feed-there, no-feed, through-feed, to-feed-past}
 
--- ---- the loop of `feed_among`: one was found, or is to be found in the rest
+-- ---- the loop of `line_feed_among`: one was found, or is to be found in the rest
 
-module _ (s : List ℕ) (i : ℕ) (found : Bool) (g : if found true (hasFeed (drop i s)) ≡ hasFeed s) where
-  pub among-found : (now : Bool) → i < length s → getD s i 0 ≡ 10 → now ≡ true → if now true (hasFeed (drop (i + 1) s)) ≡ hasFeed s
-  unfolding hasFeed
+module _ (s : List ℕ) (i : ℕ) (found : Bool) (g : if found true (hasLineFeed (drop i s)) ≡ hasLineFeed s) where
+  pub among-found : (now : Bool) → i < length s → getD s i 0 ≡ 10 → now ≡ true → if now true (hasLineFeed (drop (i + 1) s)) ≡ hasLineFeed s
+  unfolding hasLineFeed
   among-found now h e k =
-      let z : hasFeed (drop i s) ≡ true = rw (drop-cons s i 0 h, eq-eqb _ _ e) in
-      rw k (sym (all-true found (hasFeed (drop i s)) z) ∙ g)
+      let z : hasLineFeed (drop i s) ≡ true = rw (drop-cons s i 0 h, eq-eqb _ _ e) in
+      rw k (sym (all-true found (hasLineFeed (drop i s)) z) ∙ g)
     where
       all-true : (t u : Bool) → u ≡ true → if t true u ≡ true
       all-true true u e = refl
       all-true false u e = e
 
-  pub among-not : (now : Bool) → i < length s → getD s i 0 ≢ 10 → now ≡ found → if now true (hasFeed (drop (i + 1) s)) ≡ hasFeed s
-  unfolding hasFeed
+  pub among-not : (now : Bool) → i < length s → getD s i 0 ≢ 10 → now ≡ found → if now true (hasLineFeed (drop (i + 1) s)) ≡ hasLineFeed s
+  unfolding hasLineFeed
   among-not now h ne k =
-      let z : hasFeed (drop i s) ≡ hasFeed (drop (i + 1) s) = rw (drop-cons s i 0 h, ne-eqb _ _ ne, add-one i) in
+      let z : hasLineFeed (drop i s) ≡ hasLineFeed (drop (i + 1) s) = rw (drop-cons s i 0 h, ne-eqb _ _ ne, add-one i) in
       rw k (ap (λ (u : Bool). if found true u) (sym z) ∙ g)
 
-  pub among-all : length s ≤ i → found ≡ hasFeed s
-  unfolding hasFeed
+  pub among-all : length s ≤ i → found ≡ hasLineFeed s
+  unfolding hasLineFeed
   among-all h =
-      let z : hasFeed (drop i s) ≡ false = rw (drop-of-length-le s h) in
+      let z : hasLineFeed (drop i s) ≡ false = rw (drop-of-length-le s h) in
       sym (or-false found) ∙ ap (λ (u : Bool). if found true u) (sym z) ∙ g
     where
       or-false : (t : Bool) → if t true false ≡ t
@@ -47,36 +47,36 @@ module _ (s : List ℕ) (i : ℕ) (found : Bool) (g : if found true (hasFeed (dr
 
 -- ---- the loop of `past_blocks`
 
-pub past-block : (input : List ℕ) (at i : ℕ) (found : Bool) → i ≤ length input → i + length (toFeed (drop i input)) ≡ at + length (toFeed (drop at input))
-    → 16 ≤ length input - i → found ≡ hasFeed (take (i + 16 - i) (drop i input)) → found ≡ false
-    → i + 16 + length (toFeed (drop (i + 16) input)) ≡ at + length (toFeed (drop at input))
+pub past-block : (input : List ℕ) (at i : ℕ) (found : Bool) → i ≤ length input → i + length (toLineFeed (drop i input)) ≡ at + length (toLineFeed (drop at input))
+    → 16 ≤ length input - i → found ≡ hasLineFeed (take (i + 16 - i) (drop i input)) → found ≡ false
+    → i + 16 + length (toLineFeed (drop (i + 16) input)) ≡ at + length (toLineFeed (drop at input))
 past-block input at i found within g h told none =
     let k : i + 16 - i ≡ 16 = omega arith in
-    let bytes : hasFeed (take 16 (drop i input)) ≡ false = (ap (λ (n : ℕ). hasFeed (take n (drop i input))) (sym k) ∙ sym told ∙ none) in
+    let bytes : hasLineFeed (take 16 (drop i input)) ≡ false = (ap (λ (n : ℕ). hasLineFeed (take n (drop i input))) (sym k) ∙ sym told ∙ none) in
     let l = length-drop i input in
     let n : length (take 16 (drop i input)) ≡ 16 = length-take-le 16 (drop i input) (omega arith) in
-    let f : length (toFeed (drop i input)) ≡ 16 + length (toFeed (drop (i + 16) input))
-    = (ap (λ (s : List ℕ). length (toFeed s)) (sym (take-append-drop 16 (drop i input)))
+    let f : length (toLineFeed (drop i input)) ≡ 16 + length (toLineFeed (drop (i + 16) input))
+    = (ap (λ (s : List ℕ). length (toLineFeed s)) (sym (take-append-drop 16 (drop i input)))
     ∙ ap length (to-feed-past (take 16 (drop i input)) (drop 16 (drop i input)) bytes)
-    ∙ length-append (take 16 (drop i input)) (toFeed (drop 16 (drop i input)))
+    ∙ length-append (take 16 (drop i input)) (toLineFeed (drop 16 (drop i input)))
     ∙ rw (n, drop-drop 16 i input)) in
     omega arith
 
--- ---- the loop of `feed_at`: from i on as many bytes stand before the line feed as make it whole from the first place on
+-- ---- the loop of `line_feed_at`: from i on as many bytes stand before the line feed as make it whole from the first place on
 
-module _ (input : List ℕ) (at i : ℕ) (g : i + length (toFeed (drop i input)) ≡ at + length (toFeed (drop at input))) where
-  pub at-feed : i < length input → getD input i 0 ≡ 10 → i ≡ at + length (toFeed (drop at input))
-  unfolding toFeed
-  at-feed h e = let z : length (toFeed (drop i input)) ≡ 0 = rw (drop-cons input i 0 h, eq-eqb _ _ e) in omega arith
+module _ (input : List ℕ) (at i : ℕ) (g : i + length (toLineFeed (drop i input)) ≡ at + length (toLineFeed (drop at input))) where
+  pub at-feed : i < length input → getD input i 0 ≡ 10 → i ≡ at + length (toLineFeed (drop at input))
+  unfolding toLineFeed
+  at-feed h e = let z : length (toLineFeed (drop i input)) ≡ 0 = rw (drop-cons input i 0 h, eq-eqb _ _ e) in omega arith
 
-  pub at-end : length input ≤ i → i ≡ at + length (toFeed (drop at input))
-  unfolding toFeed
-  at-end h = let z : length (toFeed (drop i input)) ≡ 0 = rw (drop-of-length-le input h) in omega arith
+  pub at-end : length input ≤ i → i ≡ at + length (toLineFeed (drop at input))
+  unfolding toLineFeed
+  at-end h = let z : length (toLineFeed (drop i input)) ≡ 0 = rw (drop-of-length-le input h) in omega arith
 
-  pub past-byte : i < length input → getD input i 0 ≢ 10 → i + 1 + length (toFeed (drop (i + 1) input)) ≡ at + length (toFeed (drop at input))
-  unfolding toFeed
+  pub past-byte : i < length input → getD input i 0 ≢ 10 → i + 1 + length (toLineFeed (drop (i + 1) input)) ≡ at + length (toLineFeed (drop at input))
+  unfolding toLineFeed
   past-byte h ne =
-      let e : length (toFeed (drop i input)) ≡ suc (length (toFeed (drop (i + 1) input))) = rw (drop-cons input i 0 h, ne-eqb _ _ ne, add-one i) in
+      let e : length (toLineFeed (drop i input)) ≡ suc (length (toLineFeed (drop (i + 1) input))) = rw (drop-cons input i 0 h, ne-eqb _ _ ne, add-one i) in
       omega arith
 
 -- ---- what `hold` keeps of bytes is one text
@@ -148,16 +148,16 @@ module _ (s buffer : List ℕ) (held r : ℕ) (told : r ≡ roomFor (length s) h
 
 -- ---- what `keep` does
 
-pub end-within : (input : List ℕ) (at end : ℕ) → at < length input → end ≡ at + length (toFeed (drop at input)) → end ≤ length input
+pub end-within : (input : List ℕ) (at end : ℕ) → at < length input → end ≡ at + length (toLineFeed (drop at input)) → end ≤ length input
 end-within input at end h told =
-    let u = toFeed (drop at input) in
+    let u = toLineFeed (drop at input) in
     let f : length (drop at input) ≡ length u + length (drop (length u) (drop at input)) = (ap length (feed-front (drop at input)) ∙ length-append u _) in
     let l = length-drop at input in
     omega arith
 
 module _ (old : List ℕ) (held : ℕ) (input : List ℕ) (at : ℕ) where
   pub keep-nothing : length input ≤ at → Keeps old held old input at (record { held = held; at = at; ended = false })
-  unfolding keepAll toFeed throughFeed hasFeed
+  unfolding keepAll toLineFeed throughLineFeed hasLineFeed
   keep-nothing h = record {
     kept = rw (drop-of-length-le input h);
     place = rw (drop-of-length-le input h, add-zero);
@@ -165,12 +165,12 @@ module _ (old : List ℕ) (held : ℕ) (input : List ℕ) (at : ℕ) where
   }
 
   -- what is kept are the bytes before the line feed
-  module _ (end : ℕ) (new : List ℕ) (n : ℕ) (h : at < length input) (told : end ≡ at + length (toFeed (drop at input)))
+  module _ (end : ℕ) (new : List ℕ) (n : ℕ) (h : at < length input) (told : end ≡ at + length (toLineFeed (drop at input)))
       (holds : part new n ≡ keepAll (part old held) (take (end - at) (drop at input))) where
-    front : take (end - at) (drop at input) ≡ toFeed (drop at input)
+    front : take (end - at) (drop at input) ≡ toLineFeed (drop at input)
     front =
-        let k : end - at ≡ length (toFeed (drop at input)) = omega arith in
-        rw k (ap (take (length (toFeed (drop at input)))) (feed-front (drop at input)) ∙ take-append-seam (toFeed (drop at input)) _)
+        let k : end - at ≡ length (toLineFeed (drop at input)) = omega arith in
+        rw k (ap (take (length (toLineFeed (drop at input)))) (feed-front (drop at input)) ∙ take-append-seam (toLineFeed (drop at input)) _)
 
     left : length (drop at input) ≡ length input - at
     left = length-drop at input
@@ -178,14 +178,14 @@ module _ (old : List ℕ) (held : ℕ) (input : List ℕ) (at : ℕ) where
     pub keep-feed : end < length input → Keeps old held new input at (record { held = n; at = end + 1; ended = true })
     keep-feed g =
         let l = left in
-        let there : hasFeed (drop at input) ≡ true = feed-there (drop at input) (omega arith) in
-        let e : length (throughFeed (drop at input)) ≡ length (toFeed (drop at input)) + 1
-        = (ap length (through-feed (drop at input) there) ∙ length-append (toFeed (drop at input)) (10 ∷ [])) in
+        let there : hasLineFeed (drop at input) ≡ true = feed-there (drop at input) (omega arith) in
+        let e : length (throughLineFeed (drop at input)) ≡ length (toLineFeed (drop at input)) + 1
+        = (ap length (through-feed (drop at input) there) ∙ length-append (toLineFeed (drop at input)) (10 ∷ [])) in
         record { kept = holds ∙ ap (keepAll (part old held)) front; place = omega arith; ended = sym there }
 
     pub keep-end : length input ≤ end → Keeps old held new input at (record { held = n; at = end; ended = false })
     keep-end g =
         let l = left in
-        let not-there : hasFeed (drop at input) ≡ false = feed-not-there (drop at input) (omega arith) in
-        let e : length (throughFeed (drop at input)) ≡ length (toFeed (drop at input)) = ap length (no-feed (drop at input) not-there) in
+        let not-there : hasLineFeed (drop at input) ≡ false = feed-not-there (drop at input) (omega arith) in
+        let e : length (throughLineFeed (drop at input)) ≡ length (toLineFeed (drop at input)) = ap length (no-feed (drop at input) not-there) in
         record { kept = holds ∙ ap (keepAll (part old held)) front; place = omega arith; ended = sym not-there }

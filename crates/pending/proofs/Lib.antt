@@ -1,4 +1,4 @@
--- For users: Feeds, where a line feed stands; Held, what is held of a line. Keeping is the loop of `keep`.
-pub mod Feeds
+-- For users: LineFeeds, where a line feed stands; Held, what is held of a line. Keeping is the loop of `keep`.
+pub mod LineFeeds
 pub mod Held
 pub mod Keeping

@@ -33,21 +33,21 @@ unfoldable pub roomFor : ℕ → ℕ → ℕ
 roomFor count held = if (ltb held 513) (if (ltb count (513 - held)) count (513 - held)) 0
 
 -- the bytes before the first line feed
-unfoldable pub toFeed : List ℕ → List ℕ
-toFeed [] = []
-toFeed (b ∷ s) = if (eqb b 10) [] (b ∷ toFeed s)
+unfoldable pub toLineFeed : List ℕ → List ℕ
+toLineFeed [] = []
+toLineFeed (b ∷ s) = if (eqb b 10) [] (b ∷ toLineFeed s)
 
 -- the bytes up to it, with it; all, where there is none
-unfoldable pub throughFeed : List ℕ → List ℕ
-throughFeed [] = []
-throughFeed (b ∷ s) = if (eqb b 10) (b ∷ []) (b ∷ throughFeed s)
+unfoldable pub throughLineFeed : List ℕ → List ℕ
+throughLineFeed [] = []
+throughLineFeed (b ∷ s) = if (eqb b 10) (b ∷ []) (b ∷ throughLineFeed s)
 
-unfoldable pub hasFeed : List ℕ → Bool
-hasFeed [] = false
-hasFeed (b ∷ s) = if (eqb b 10) true (hasFeed s)
+unfoldable pub hasLineFeed : List ℕ → Bool
+hasLineFeed [] = false
+hasLineFeed (b ∷ s) = if (eqb b 10) true (hasLineFeed s)
 
 -- what is promised of a buffer as it was and as it is, and of the result
 pub record Keeps (old : List ℕ) (held : ℕ) (new input : List ℕ) (at : ℕ) (r : Kept) : Type 0 where
-  pub kept : part new (r .held) ≡ keepAll (part old held) (toFeed (drop at input))
-  pub place : r .at ≡ at + length (throughFeed (drop at input))
-  pub ended : r .ended ≡ hasFeed (drop at input)
+  pub kept : part new (r .held) ≡ keepAll (part old held) (toLineFeed (drop at input))
+  pub place : r .at ≡ at + length (throughLineFeed (drop at input))
+  pub ended : r .ended ≡ hasLineFeed (drop at input)

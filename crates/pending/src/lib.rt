@@ -2,7 +2,7 @@
 ghost use Prim.Native.Nat.{_+_, _≤_};
 ghost use mathlib.Core.Path.{_≡_};
 ghost use lib.ListN.{drop, length};
-ghost use Rattle.pending.specs.Kept.{Keeps, hasFeed, keepAll, part, roomFor, toFeed};
+ghost use Rattle.pending.specs.Kept.{Keeps, hasLineFeed, keepAll, part, roomFor, toLineFeed};
 use text_put::put::put;
 
 // How many bytes of the line are held now, the place in the input after what was taken, and whether that was a line feed.
@@ -13,8 +13,8 @@ pub struct Kept {
 }
 
 // Whether a line feed is among these bytes. All of them are looked at, so that the compiler can compare them side by side.
-pub(crate) fn feed_among(bytes: &[u8]) -> bool
-    ensures { λ r. ⌜ r ≡ hasFeed (now (bytes .entry)) ⌝ }
+pub(crate) fn line_feed_among(bytes: &[u8]) -> bool
+    ensures { λ r. ⌜ r ≡ hasLineFeed (now (bytes .entry)) ⌝ }
 {
     let mut found = false;
     let mut i = 0;
@@ -29,7 +29,7 @@ pub(crate) fn feed_among(bytes: &[u8]) -> bool
 
 // Passes bytes without a line feed sixteen at a time: the next one stands as far from here as from the place handed back.
 pub(crate) fn past_blocks(input: &[u8], at: usize) -> usize
-    ensures { λ r. ⌜ r + length (toFeed (drop r (now (input .entry)))) ≡ at + length (toFeed (drop at (now (input .entry)))) ⌝ }
+    ensures { λ r. ⌜ r + length (toLineFeed (drop r (now (input .entry)))) ≡ at + length (toLineFeed (drop at (now (input .entry)))) ⌝ }
 {
     if at > input.len() {
         return at;
@@ -37,7 +37,7 @@ pub(crate) fn past_blocks(input: &[u8], at: usize) -> usize
     let mut i = at;
     while input.len() - i >= 16 {
         let end = i + 16;
-        if feed_among(&input[i..end]) {
+        if line_feed_among(&input[i..end]) {
             return i;
         }
         i = end;
@@ -46,8 +46,8 @@ pub(crate) fn past_blocks(input: &[u8], at: usize) -> usize
 }
 
 // The place of the next line feed, or the input's end.
-pub(crate) fn feed_at(input: &[u8], at: usize) -> usize
-    ensures { λ r. ⌜ r ≡ at + length (toFeed (drop at (now (input .entry)))) ⌝ }
+pub(crate) fn line_feed_at(input: &[u8], at: usize) -> usize
+    ensures { λ r. ⌜ r ≡ at + length (toLineFeed (drop at (now (input .entry)))) ⌝ }
 {
     let mut i = past_blocks(input, at);
     while i < input.len() {
@@ -97,7 +97,7 @@ pub fn keep(buffer: &mut [u8], held: usize, input: &[u8], at: usize) -> Kept
             ended: false,
         };
     }
-    let end = feed_at(input, at);
+    let end = line_feed_at(input, at);
     let n = hold(buffer, held, &input[at..end]);
     if end < input.len() {
         Kept {

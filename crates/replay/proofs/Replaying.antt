@@ -11,8 +11,8 @@ use lib.Seq.{take-all, take-append-seam}
 use borrow.Author.Tests.{eq-eqb, eqb-false, eqb-true, le-leb, ltb-false, ltb-true, ne-eqb}
 use Rattle.hash.specs.Logic.{if}
 use Rattle.head_count.specs.Counters.{up}
-use Rattle.pending.proofs.Feeds.{through-some}
-use Rattle.pending.specs.Kept.{Keeps, throughFeed}
+use Rattle.pending.proofs.LineFeeds.{through-some}
+use Rattle.pending.specs.Kept.{Keeps, throughLineFeed}
 use Rattle.script.specs.Feeds.{Finishes, lastPrints, lent, reading}
 use Rattle.script.specs.Parts.{Prints, atFront}
 use Rattle.text.specs.Places.{Reads, here}
@@ -211,7 +211,7 @@ record-follows t d s line want want′ out r p takes = counts-then _ _ _ p (reco
 pub less-left : (old : List ℕ) (held : ℕ) (new input : List ℕ) (at : ℕ) (r : Kept) → Keeps old held new input at r → at < length input → length input - r .at < length input - at
 less-left old held new input at r keeps h =
     let l = length-drop at input in
-    let s : 0 < length (throughFeed (drop at input)) = through-some (drop at input) (omega arith) in
+    let s : 0 < length (throughLineFeed (drop at input)) = through-some (drop at input) (omega arith) in
     let p = keeps .place in
     omega arith
 

@@ -10,7 +10,7 @@ use Rattle.sheet_back.proofs.Sheets.{equal-sheets}
 use Rattle.head_driver.specs.declared.Driver.{Driver}
 use Rattle.rules.specs.Runs.{Entry, after}
 use Rattle.rules.specs.Statements.{AnswersTellSheets, CountersBelow, KeptAnswersTellSheets, KeptSheetsTellAnswers, SheetRule, SheetsTellAnswers, TellingBelow}
-use Rattle.rules.proofs.Feeds.{sheet-is-text}
+use Rattle.rules.proofs.LineFeeds.{sheet-is-text}
 use Rattle.rules.proofs.Lines.{calls-alike, lines-alike, lines-keep}
 
 -- ---- of drivers that keep the invariant

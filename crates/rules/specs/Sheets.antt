@@ -16,9 +16,9 @@ onto b [] = if (eqb b 10) (b ∷ []) []
 onto b (c ∷ s) = b ∷ (c ∷ s)
 
 -- a text up to its last line feed
-unfoldable pub toLastFeed : List ℕ → List ℕ
-toLastFeed [] = []
-toLastFeed (b ∷ s) = onto b (toLastFeed s)
+unfoldable pub toLastLineFeed : List ℕ → List ℕ
+toLastLineFeed [] = []
+toLastLineFeed (b ∷ s) = onto b (toLastLineFeed s)
 
 -- the bytes that a sheet's answer counts
 unfoldable pub wroteOf : LineAnswer → List ℕ → List ℕ
@@ -29,4 +29,4 @@ wroteOf (LineAnswer.Sheet n) bytes = take n bytes
 
 -- what `(sheet)` writes into a buffer, up to its last line feed
 unfoldable pub sheetInto : List ℕ → Driver → List ℕ
-sheetInto buffer d = toLastFeed (wroteOf (turnOf d (call (ascii "(sheet)")) buffer .answer) (sheetAfter d (call (ascii "(sheet)")) buffer))
+sheetInto buffer d = toLastLineFeed (wroteOf (turnOf d (call (ascii "(sheet)")) buffer .answer) (sheetAfter d (call (ascii "(sheet)")) buffer))

@@ -9,8 +9,8 @@ use lib.Dec.{eqb}
 use lib.ListN.{length, drop, length-append, length-drop}
 use lib.Seq.{slice, take-append-seam}
 use Rattle.hash.specs.Logic.{if}
-use Rattle.pending.specs.Kept.{Keeps, Part, part, keepAll, keepByte, lineSoFar, throughFeed, toFeed}
-use Rattle.pending.proofs.Feeds.{no-feed, through-all, through-feed, through-front, through-some}
+use Rattle.pending.specs.Kept.{Keeps, Part, part, keepAll, keepByte, lineSoFar, throughLineFeed, toLineFeed}
+use Rattle.pending.proofs.LineFeeds.{no-feed, through-all, through-feed, through-front, through-some}
 use Rattle.pending.proofs.Held.{sound-all}
 use Rattle.script_call.specs.Calls.{call}
 use Rattle.script.specs.Prints.{prints}
@@ -53,14 +53,14 @@ before-more b x d p e more = record {
   prints = rw (other-prints b d p e, other-taken b d p e) (more .prints);
 }
 
-before-feed : (x : List ℕ) (d : Driver) (p : Part) → Before (toFeed x) d p
-unfolding toFeed
+before-feed : (x : List ℕ) (d : Driver) (p : Part) → Before (toLineFeed x) d p
+unfolding toLineFeed
 before-feed [] d p = before-none d p
 before-feed (b ∷ x) d p = go (eqb b 10) refl (before-feed x d (keepByte p b))
   where
-    go : (t : Bool) → eqb b 10 ≡ t → Before (toFeed x) d (keepByte p b) → Before (if t [] (b ∷ toFeed x)) d p
+    go : (t : Bool) → eqb b 10 ≡ t → Before (toLineFeed x) d (keepByte p b) → Before (if t [] (b ∷ toLineFeed x)) d p
     go true e more = before-none d p
-    go false e more = before-more b (toFeed x) d p e more
+    go false e more = before-more b (toLineFeed x) d p e more
 
 -- and then one
 -- what a line with its line feed does
@@ -88,7 +88,7 @@ pub record FeedsLine (fed : Fed) (pending pending′ input out out′ : List ℕ
 module _ (fed : Fed) (pending pending′ input out : List ℕ) (k : Kept) (room : 513 ≤ length pending) (few : fed .held ≤ 513) (within : fed .taken ≤ length input)
     (space : fed .written + 4096 ≤ length out) (keeps : Keeps pending (fed .held) pending′ input (fed .taken) k) where
   abbrev u : List ℕ
-  u = toFeed (drop (fed .taken) input)
+  u = toLineFeed (drop (fed .taken) input)
 
   abbrev old : Part
   old = part pending (fed .held)
@@ -106,14 +106,14 @@ module _ (fed : Fed) (pending pending′ input out : List ℕ) (k : Kept) (room 
   left = length-drop (fed .taken) input
 
   -- what is taken is the input from where it stands up to the new place
-  taken-slice : slice (fed .taken) (k .at) input ≡ throughFeed (drop (fed .taken) input)
-  taken-slice = rw (keeps .place) (slice-front (fed .taken) input (throughFeed (drop (fed .taken) input)) _ within (through-front (drop (fed .taken) input)))
+  taken-slice : slice (fed .taken) (k .at) input ≡ throughLineFeed (drop (fed .taken) input)
+  taken-slice = rw (keeps .place) (slice-front (fed .taken) input (throughLineFeed (drop (fed .taken) input)) _ within (through-front (drop (fed .taken) input)))
 
   place-within : k .at ≤ length input
   place-within =
       let p = keeps .place in
-      let f : length (drop (fed .taken) input) ≡ length (throughFeed (drop (fed .taken) input)) + length (drop (length (throughFeed (drop (fed .taken) input))) (drop (fed .taken) input))
-      = (ap length (through-front (drop (fed .taken) input)) ∙ length-append (throughFeed (drop (fed .taken) input)) _) in
+      let f : length (drop (fed .taken) input) ≡ length (throughLineFeed (drop (fed .taken) input)) + length (drop (length (throughLineFeed (drop (fed .taken) input))) (drop (fed .taken) input))
+      = (ap length (through-front (drop (fed .taken) input)) ∙ length-append (throughLineFeed (drop (fed .taken) input)) _) in
       let l = left in
       omega arith
 
@@ -125,7 +125,7 @@ module _ (fed : Fed) (pending pending′ input out : List ℕ) (k : Kept) (room 
   place-last h =
       let p = keeps .place in
       let l = left in
-      let t : length (throughFeed (drop (fed .taken) input)) ≡ length (drop (fed .taken) input) = ap length (through-all (drop (fed .taken) input) (sym (keeps .ended) ∙ h)) in
+      let t : length (throughLineFeed (drop (fed .taken) input)) ≡ length (drop (fed .taken) input) = ap length (through-all (drop (fed .taken) input) (sym (keeps .ended) ∙ h)) in
       omega arith
 
   -- the input ends first

@@ -20,9 +20,8 @@ pub(crate) fn put_lines(buf: &mut [u8], d: Driver) -> usize
     ensures { λ r. ⌜ Wrote (now (buf .entry)) (now (buf .exit)) 0 r (sheetText d) ⌝ }
     ensures { λ r. ⌜ r ≤ 2908 ⌝ }
 {
-    let life = d.life;
     let waiters = d.waiters;
-    let i = put_life(buf, 0, life);
+    let i = put_life(buf, 0, d.life);
     put_waiters(buf, i, waiters)
 }
 

@@ -41,12 +41,10 @@ pub(crate) fn put_life(buf: &mut [u8], at: usize, life: HeadLifecycle) -> usize
     ensures { λ r. ⌜ Wrote (now (buf .entry)) (now (buf .exit)) at r (lifeLines (shownLife life)) ⌝ }
     ensures { λ r. ⌜ r ≤ at + 892 ⌝ }
 {
-    let stats = life.stats;
-    let epoch = life.claim_epoch;
     let current = life.current;
     let stored = life.superseded;
     let installed = life.installed;
     let previous = life.previous;
-    let i = put_count(buf, at, stats, epoch);
+    let i = put_count(buf, at, life.stats, life.claim_epoch);
     put_after_count(buf, i, current, stored, installed, previous)
 }

@@ -21,9 +21,8 @@ pub(crate) fn put_held(buf: &mut [u8], at: usize, held: Generation) -> usize
     ensures { λ r. ⌜ Wrote (now (buf .entry)) (now (buf .exit)) at r (generationText (GenerationSlot.Held held)) ⌝ }
     ensures { λ r. ⌜ r ≤ at + 161 ⌝ }
 {
-    let anchor = held.anchor;
     let readiness = held.readiness;
-    let i = put_anchor(buf, at, Page::Sheet, anchor);
+    let i = put_anchor(buf, at, Page::Sheet, held.anchor);
     let j = put_spaced(buf, i, held.handle);
     let k = put_byte(buf, j, b' ');
     put_readiness(buf, k, readiness)

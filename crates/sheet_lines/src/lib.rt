@@ -43,11 +43,9 @@ pub(crate) fn put_delivery(buf: &mut [u8], at: usize, held: HeadDelivery) -> usi
     ensures { λ r. ⌜ Wrote (now (buf .entry)) (now (buf .exit)) at r (deliveryText held) ⌝ }
     ensures { λ r. ⌜ r ≤ at + 152 ⌝ }
 {
-    let anchor = held.anchor;
-    let parent_hash = held.parent_hash;
-    let i = put_anchor(buf, at, Page::Sheet, anchor);
+    let i = put_anchor(buf, at, Page::Sheet, held.anchor);
     let j = put_byte(buf, i, b' ');
-    put_sheet_hash(buf, j, parent_hash)
+    put_sheet_hash(buf, j, held.parent_hash)
 }
 
 // Puts `A P H`.
@@ -56,8 +54,7 @@ pub(crate) fn put_unsettled(buf: &mut [u8], at: usize, head: UnsettledHead) -> u
     ensures { λ r. ⌜ Wrote (now (buf .entry)) (now (buf .exit)) at r (unsettledText head) ⌝ }
     ensures { λ r. ⌜ r ≤ at + 173 ⌝ }
 {
-    let held = head.delivery;
-    let i = put_delivery(buf, at, held);
+    let i = put_delivery(buf, at, head.delivery);
     put_spaced(buf, i, head.provisional)
 }
 
@@ -99,10 +96,9 @@ pub(crate) fn put_settled(buf: &mut [u8], at: usize, head: SettledHead) -> usize
     ensures { λ r. ⌜ Wrote (now (buf .entry)) (now (buf .exit)) at r (currentLine (CurrentHead.Settled head)) ⌝ }
     ensures { λ r. ⌜ r ≤ at + 247 ⌝ }
 {
-    let held = head.delivery;
     let report = head.report;
     let i = put(buf, at, b"(current settled ");
-    let j = put_delivery(buf, i, held);
+    let j = put_delivery(buf, i, head.delivery);
     put_told(buf, j, report)
 }
 

@@ -3,13 +3,13 @@ use Prim.Native.Nat.{_+_, _-_, _≤_}
 use mathlib.Core.Path.{_≡_, refl}
 use lib.ListN.{length, drop}
 use borrow.Author.Needs.{needs}
-use Rattle.pending.specs.Kept.{toFeed}
+use Rattle.pending.specs.Kept.{toLineFeed}
 use Rattle.pending.proofs.Keeping.{past-block}
 use Rattle.pending.proofs.past_blocks.Statement.{statement}
 use Rattle.pending.proofs.past_blocks.Tie as tie
 
 abbrev Inv-loop : tie.InvT-loop
-Inv-loop input at i₀ i = (i ≤ length input) × (i + length (toFeed (drop i input)) ≡ at + length (toFeed (drop at input)))
+Inv-loop input at i₀ i = (i ≤ length input) × (i + length (toLineFeed (drop i input)) ≡ at + length (toLineFeed (drop at input)))
 
 abbrev μ-loop : tie.MeasureT-loop
 μ-loop input at i₀ i = length input - i

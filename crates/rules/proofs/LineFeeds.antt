@@ -22,7 +22,7 @@ use Rattle.head_ready.specs.declared.GenerationSlot.{GenerationSlot}
 use Rattle.head_life.specs.declared.HeadLifecycle.{HeadLifecycle}
 use Rattle.script_call.specs.declared.LineCall.{LineCall}
 use Rattle.value_text.specs.declared.page.Page.{Page}
-use Rattle.rules.specs.Sheets.{onto, sheetInto, toLastFeed, wroteOf}
+use Rattle.rules.specs.Sheets.{onto, sheetInto, toLastLineFeed, wroteOf}
 use Rattle.rules.specs.Statements.{SheetIsText}
 
 -- ---- texts that end with a line feed
@@ -43,12 +43,12 @@ unfolding onto
 onto-feed b [] = refl
 onto-feed b (c ∷ s) = refl
 
-to-feed : (s : List ℕ) → toLastFeed (s ++ ascii "\n") ≡ s ++ ascii "\n"
-unfolding toLastFeed onto
+to-feed : (s : List ℕ) → toLastLineFeed (s ++ ascii "\n") ≡ s ++ ascii "\n"
+unfolding toLastLineFeed onto
 to-feed [] = refl
 to-feed (b ∷ s) = ap (onto b) (to-feed s) ∙ onto-feed b s
 
-whole : (s : List ℕ) → Fed s → toLastFeed s ≡ s
+whole : (s : List ℕ) → Fed s → toLastLineFeed s ≡ s
 whole s f = rw (f .is) (to-feed (f .before))
 
 -- ---- the sheet ends with a line feed
@@ -94,7 +94,7 @@ wrote : (d : Driver) (buffer : List ℕ) → 4096 ≤ length buffer → wroteOf 
 unfolding turnOf sheetAfter sheetAnswer written bufferAfter wroteOf
 wrote d buffer h = rw (le-ltb (length buffer) 4096 h) (taken (sheetText d) (drop (length (sheetText d)) buffer))
 
-pub sheet-wrote : (d : Driver) (buffer : List ℕ) → 4096 ≤ length buffer → toLastFeed (wroteOf (turnOf d LineCall.Sheet buffer .answer) (sheetAfter d LineCall.Sheet buffer)) ≡ sheetText d
+pub sheet-wrote : (d : Driver) (buffer : List ℕ) → 4096 ≤ length buffer → toLastLineFeed (wroteOf (turnOf d LineCall.Sheet buffer .answer) (sheetAfter d LineCall.Sheet buffer)) ≡ sheetText d
 sheet-wrote d buffer h = rw (wrote d buffer h) (whole (sheetText d) (sheet-fed d))
 
 pub sheet-is-text : SheetIsText
