@@ -1,5 +1,6 @@
 // headscript: answers the lines of its standard input on its standard output, document 01's program. It only reads and writes; every answer is the
 // library's. Whatever a read brought is answered before the next read, so that a person who types sees each answer at once.
+// Knows nothing of lines, calls or the state: these are the library's.
 ghost use Rattle.script.specs.Feeds.{reading};
 ghost use Rattle.headscript.specs.Reads.{AnswersAll, AnswersSome, MovesOn};
 use head_driver::Driver;

@@ -1,5 +1,6 @@
 // replay: makes the calls of the recorded runs in `runs` and counts the answers that are not the recorded ones. The recording is lines, each
 // marked by its first byte: `#N` begins a run whose nine counters all stand at N, `>CALL` is a call, and the `<TEXT` lines before it are its answer.
+// Knows nothing of how answers come about, nor of what the Rust is.
 ghost use Prim.Native.Nat.{_≤_};
 ghost use mathlib.Core.Path.{_≡_};
 ghost use lib.ListN.{length};

@@ -1,6 +1,6 @@
 -- What is not shown is nowhere written.
 use Prim.Native.Nat.{ℕ, suc}
-use mathlib.Core.List.{List, [], _∷_, _++_}
+use mathlib.Core.List.{List, [], _∷_, _++_, append-assoc}
 use mathlib.Core.Path.{_≡_, refl}
 use Rattle.alike.specs.Canon.{canon, shownHead, shownLife, shownSuperseded, shownWaiter, shownWaiters}
 use Rattle.sheet_lines.specs.Lines.{countLine, currentLine, deliveryText, installedLine, previousLine, supersededLine, unsettledText, waiterLine, waiterLines}
@@ -19,9 +19,9 @@ current-shown n e (CurrentHead.Unclaimed u) = refl
 current-shown n e (CurrentHead.Preparing u) = refl
 current-shown n e (CurrentHead.Settled s) = refl
 
-pub life-shown : (l : HeadLifecycle) → countLine (l .stats) (l .«claim_epoch») ++ (currentLine (l .current) ++ (supersededLine (shownSuperseded (l .current) (l .previous) (l .superseded)) ++ (installedLine (l .installed) ++ previousLine (l .previous)))) ≡ lifeLines (shownLife l)
+pub life-shown : (l : HeadLifecycle) → (countLine (l .stats) (l .«claim_epoch») ++ (currentLine (l .current) ++ supersededLine (shownSuperseded (l .current) (l .previous) (l .superseded)))) ++ (installedLine (l .installed) ++ previousLine (l .previous)) ≡ lifeLines (shownLife l)
 unfolding lifeLines shownLife
-life-shown l = rw (current-shown (l .stats .delivered) (l .«claim_epoch») (l .current))
+life-shown l = rw (append-assoc, append-assoc, current-shown (l .stats .delivered) (l .«claim_epoch») (l .current))
 
 waiter-shown : (n : ℕ) (w : Waiter) → waiterLine n (shownWaiter w) ≡ waiterLine n w
 unfolding shownWaiter

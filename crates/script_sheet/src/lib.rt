@@ -11,7 +11,6 @@ use script_value::buffer::Written;
 use sheet_waiters::put_waiters;
 
 mod life;
-mod lines;
 mod mask;
 
 // 2,908 counts 20 digits for each waiter's number; no sheet is longer than 2,610 bytes (`script_lengths`).

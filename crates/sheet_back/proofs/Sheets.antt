@@ -28,7 +28,7 @@ lines d =
     ++ (previousLine (l .previous)
     ++ waiterLines 0 (d .waiters)))))
 
-five : (a b c d e t : List ℕ) → (a ++ (b ++ (c ++ (d ++ e)))) ++ t ≡ a ++ (b ++ (c ++ (d ++ (e ++ t))))
+five : (a b c d e t : List ℕ) → ((a ++ (b ++ c)) ++ (d ++ e)) ++ t ≡ a ++ (b ++ (c ++ (d ++ (e ++ t))))
 five a b c d e t = simp append-assoc
 
 sheet-lines : (d : Driver) → sheetText d ≡ lines d

@@ -1,14 +1,19 @@
-// The line of a sheet for the current head, with its line feed, into a lent buffer. The specs define every line of a sheet.
-// Knows nothing of what a sheet leaves out, nor in which order its lines stand.
+// The lines of a sheet, and the writers of its first three, each with its line feed, into a lent buffer: the counters, the current head, the superseded anchor.
+// Knows nothing of what a sheet leaves out.
 ghost use Prim.Native.Nat.{_+_, _≤_};
 ghost use lib.ListN.{length};
 ghost use mathlib.Core.List.{_++_};
 ghost use Rattle.script_outcome.specs.Texts.{reportText};
-ghost use Rattle.sheet_lines.specs.Lines.{unclaimedEndText, deliveryText, unsettledText, currentLine};
+ghost use Rattle.sheet_lines.specs.Lines.{unclaimedEndText, deliveryText, unsettledText, countLine, currentLine, supersededLine};
 ghost use Rattle.text.specs.Ascii.{ascii};
 ghost use Rattle.text.specs.Writes.{Wrote};
+use crate::lines::put_count;
+use crate::lines::put_superseded;
 use hash_text::put_sheet_hash;
+use head_anchor::AnchorSlot;
 use head_attempt::HeadCompletion;
+use head_count::Epoch;
+use head_count::HeadStats;
 use head_current::CurrentHead;
 use head_current::HeadDelivery;
 use head_current::LastReport;
@@ -20,6 +25,8 @@ use text_put::put::put;
 use text_put::put::put_byte;
 use value_text::anchor::put_anchor;
 use value_text::page::Page;
+
+mod lines;
 
 // Puts how an unclaimed head's attempt stands, and the end of its line.
 pub(crate) fn put_unclaimed_end(buf: &mut [u8], at: usize, end: HeadCompletion) -> usize
@@ -102,7 +109,7 @@ pub(crate) fn put_settled(buf: &mut [u8], at: usize, head: SettledHead) -> usize
     put_told(buf, j, report)
 }
 
-pub fn put_current(buf: &mut [u8], at: usize, current: CurrentHead) -> usize
+pub(crate) fn put_current(buf: &mut [u8], at: usize, current: CurrentHead) -> usize
     requires { ⌜ at + 247 ≤ length (now buf) ⌝ }
     ensures { λ r. ⌜ Wrote (now (buf .entry)) (now (buf .exit)) at r (currentLine current) ⌝ }
     ensures { λ r. ⌜ r ≤ at + 247 ⌝ }
@@ -113,4 +120,22 @@ pub fn put_current(buf: &mut [u8], at: usize, current: CurrentHead) -> usize
         CurrentHead::Preparing(head) => put_preparing(buf, at, head),
         CurrentHead::Settled(head) => put_settled(buf, at, head),
     }
+}
+
+// Puts the lines from the counters' to the superseded anchor's.
+pub fn put_count_to_superseded(
+    buf: &mut [u8],
+    at: usize,
+    stats: HeadStats,
+    epoch: Epoch,
+    current: CurrentHead,
+    superseded: AnchorSlot,
+) -> usize
+    requires { ⌜ at + 545 ≤ length (now buf) ⌝ }
+    ensures { λ r. ⌜ Wrote (now (buf .entry)) (now (buf .exit)) at r (countLine stats epoch ++ (currentLine current ++ supersededLine superseded)) ⌝ }
+    ensures { λ r. ⌜ r ≤ at + 545 ⌝ }
+{
+    let i = put_count(buf, at, stats, epoch);
+    let j = put_current(buf, i, current);
+    put_superseded(buf, j, superseded)
 }

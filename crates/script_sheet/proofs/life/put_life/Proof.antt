@@ -9,8 +9,9 @@ returns : tie.Need-returns
 returns c =
     let c2 = c .before .before in
     let c1 = c2 .before .before .before .before in
-    (wrote-as (then (c1 .put-count .ensures .0) (c2 .put-after-count .ensures .0)) (life-shown _), omega arith)
+    (wrote-as (then (rw (c1 .before .before .shown-superseded .ensures) at (c1 .put-count-to-superseded .ensures .0)) (c2 .put-generations .ensures .0)) (life-shown _), omega arith)
 
 pub put-life-spec : {M : Type 1} → statement M
 put-life-spec = tie.close (tie.spec
+    (λ c κs. tt)
     (search needs) (search needs) (search needs) returns)
