@@ -243,7 +243,7 @@ module _ (l : HeadLifecycle) (v : Ordered l) (held : HeadDelivery) (elsewhere : 
         unsettled_elsewhere = tt;
         unclaimed_end = tt;
         absent_rest = tt;
-        previous_below = applied_below l.installed _ p skip carried;
+        previous_below = applied_below l.installed (record { anchor = held.anchor; handle = handle; readiness = settled_readiness o }) p skip carried;
         installed_readiness = f;
         previous_readiness = previous_kept l.installed o v.installed_readiness;
         report_readiness = f;

@@ -3,6 +3,7 @@ use Prim.Native.Nat.{ℕ}
 use mathlib.Core.Bool.{Bool, true, false}
 use mathlib.Core.List.{List, [], ◌∷◌}
 use mathlib.Core.Path.{◌≡◌, refl, sym, ap, ◌∙◌, subst, ap₂}
+use Rattle.head_step.specs.Steps.{step}
 use Rattle.hash.specs.Logic.{both, if}
 use Rattle.head_anchor.specs.Anchors.{holds}
 use Rattle.head_attempt.specs.Attempts.{settled}
@@ -108,9 +109,9 @@ alike_canon d v =
 alike_answers : {d₁ d₂ : Driver} → Alike d₁ d₂ → Ordered d₁.life → (cs : List Call) → answers d₁ cs ≡ answers d₂ cs
 unfolding answers
 alike_answers w v [] = refl
-alike_answers {d₁} w v (c ∷ cs) =
+alike_answers {d₁ = d₁} {d₂ = d₂} w v (c ∷ cs) =
     let b = both_step w v c in
-    ap₂ ◌∷◌ b.answer (alike_answers b.driver (ordered_step d₁ c v) cs)
+    ap₂ ◌∷◌ b.answer (alike_answers {d₁ = (step d₁ c).driver} {d₂ = (step d₂ c).driver} b.driver (ordered_step d₁ c v) cs)
 
 pub shows_enough : ShowsEnough
 shows_enough d₁ d₂ v₁ v₂ q cs =

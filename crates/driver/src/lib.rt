@@ -1,5 +1,7 @@
 // The library that a host calls: a line in, an answer out, and the sheet into the caller's buffer; and the answer's line into another.
 // Knows nothing of where lines come from.
+#![tactic(auto)]
+
 ghost use Rattle.std.specs.Prelude.{◌≡◌};
 ghost use Rattle.driver.specs.Turns.{Takes, made, sheet_answer};
 
@@ -10,12 +12,13 @@ use script_call::{LineCall, read_call};
 use script_sheet::put_sheet;
 use script_value::buffer::Written;
 
-#[derive(Drop)]
+#[derive(Clone, Copy)]
 pub struct Turn {
     pub driver: Driver,
     pub answer: LineAnswer,
 }
 
+#[tactic(auto, unfolding(crate::specs::Turns::made))]
 pub(crate) fn made(reply: Reply) -> Turn
     ensures { result ≡ made reply }
 {
@@ -27,6 +30,7 @@ pub(crate) fn made(reply: Reply) -> Turn
     }
 }
 
+#[tactic(auto, unfolding(crate::specs::Turns::sheet_answer))]
 pub(crate) fn sheet_answer(written: Written) -> LineAnswer
     ensures { result ≡ sheet_answer written }
 {
@@ -37,6 +41,7 @@ pub(crate) fn sheet_answer(written: Written) -> LineAnswer
 }
 
 // A line without its line feed. Only `(sheet)` looks at the sheet buffer.
+#[tactic(auto, using(crate::proofs::Taken::took_call, crate::proofs::Taken::took_no_call, crate::proofs::Taken::took_sheet))]
 pub fn take_line(d: Driver, line: &[u8], sheet: &mut [u8]) -> Turn
     ensures { Takes d line.now sheet.old sheet.new result }
 {

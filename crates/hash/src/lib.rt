@@ -1,11 +1,13 @@
 // A hash of 32 bytes: alloy's `B256`; and, as the lowest crate, `both` and the choice by a test that all the others use.
 // Knows nothing of what it is the hash of, nor of its text.
+#![tactic(auto)]
+
 ghost use Rattle.std.specs.Prelude.{◌≡◌};
 ghost use Rattle.hash.specs.Logic.{both};
 ghost use Rattle.hash.specs.Hashes.{same_hash};
 
 // Four 64-bit words, the most significant byte first, since an enum can't hold an array.
-#[derive(Drop)]
+#[derive(Clone, Copy)]
 pub struct Hash {
     pub w0: u64,
     pub w1: u64,
@@ -21,6 +23,7 @@ pub fn both(a: bool, b: bool) -> bool
 }
 
 // The Rust's `==` on hashes.
+#[tactic(auto, unfolding(crate::specs::Hashes::same_hash))]
 pub fn same_hash(a: Hash, b: Hash) -> bool
     ensures { result ≡ same_hash a b }
 {

@@ -1,5 +1,7 @@
 // The hash that a word of a line says.
 // Knows nothing of where the word stands, nor of how a hash is written.
+#![tactic(auto)]
+
 ghost use Rattle.std.specs.Prelude.{◌<◌, ◌^◌, max, ◌≡◌, map, length};
 ghost use Rattle.hash_text.specs.Hex.{digit_value};
 ghost use Rattle.hash_text.specs.LineHashes.{line_hash};
@@ -8,6 +10,7 @@ ghost use Rattle.hash_read.specs.Values.{value_of, largest, number_on};
 use hash::Hash;
 use hash_text::{Digit, HashWord};
 
+#[tactic(auto, using(hash_text::proofs::HexRead::value_decimal, hash_text::proofs::HexRead::value_letter, hash_text::proofs::HexRead::value_low, hash_text::proofs::HexRead::value_middle, hash_text::proofs::HexRead::value_high))]
 pub(crate) fn digit_value(b: u8) -> Digit
     ensures { result ≡ digit_value b }
 {
@@ -19,6 +22,7 @@ pub(crate) fn digit_value(b: u8) -> Digit
 }
 
 // A digit's value, and 255 for a byte that is none: a number and no enum, so that the loop over a word's bytes has no branch.
+#[tactic(auto, using(hash_text::proofs::HexRead::digit_small, crate::proofs::Values::value_digit, crate::proofs::Values::value_none))]
 pub(crate) fn value_of(b: u8) -> u8
     ensures { result ≡ value_of b }
 {
@@ -36,6 +40,7 @@ pub(crate) fn larger(a: u8, b: u8) -> u8
 
 // Lays out the values of a word's bytes, and hands back the largest, which tells whether all are digits. No byte ends the loop
 // early, so that it is compiled to sixteen bytes a turn.
+#[tactic(auto, using(crate::proofs::Values::laid_start, crate::proofs::Values::laid_more, crate::proofs::Values::laid_values, crate::proofs::Values::laid_top))]
 pub(crate) fn put_values(word: &[u8], values: &mut [u8]) -> u8
     requires { length word.now ≡ length values.old }
     ensures values_after { values.new ≡ map value_of word.now }
@@ -53,6 +58,7 @@ pub(crate) fn put_values(word: &[u8], values: &mut [u8]) -> u8
 }
 
 // The number that a row of values says. They are known to be those of digits by now, so none is tested here.
+#[tactic(auto, using(crate::proofs::Values::number_below, crate::proofs::Values::number_more, crate::proofs::Values::number_done))]
 pub(crate) fn number(values: &[u8]) -> u64
     requires { number_on 0 values.now < 2 ^ 64 }
     ensures { result ≡ number_on 0 values.now }
@@ -68,6 +74,7 @@ pub(crate) fn number(values: &[u8]) -> u64
 
 // What a word of a line says as a hash: sixteen digits for each of the four 64-bit words. For a caller that has the word in hand,
 // since it may as well be a keyword.
+#[tactic(auto, using(hash_text::proofs::HexRead::hash_short, crate::proofs::Values::not_digits, crate::proofs::Values::part_below, crate::proofs::Values::all_digits), unfolding(hash_text::specs::LineHashes::line_hash))]
 pub fn read_hash(word: &[u8]) -> HashWord
     ensures { result ≡ line_hash word.now }
 {

@@ -1,5 +1,7 @@
 // Anchors: when two are equal. And the types and definitions of links, prepared lists and outcomes.
 // Its code knows nothing of a head, a counter, a waiter or a line of text; its definitions hold the words and the kinds of values that answers say.
+#![tactic(auto)]
+
 use hash::Hash;
 
 pub mod storage_memo;
@@ -7,7 +9,7 @@ pub mod storage_memo;
 // From bal_prefetch.rs.
 
 // The Rust's `Option<BalSkip>`; a number stands for the text of an error.
-#[derive(Drop)]
+#[derive(Clone, Copy)]
 pub enum BalSkip {
     Nothing,
     NoHash,
@@ -18,7 +20,7 @@ pub enum BalSkip {
 // From read_hub.rs.
 
 // The Rust's `Option<CarryRefusal>`: linked, or what is wrong with the link.
-#[derive(Drop)]
+#[derive(Clone, Copy)]
 pub enum Link {
     Linked,
     NoParent,
@@ -28,14 +30,14 @@ pub enum Link {
 }
 
 // A list that was prepared for an anchor. Its values stay with the host.
-#[derive(Drop)]
+#[derive(Clone, Copy)]
 pub struct PreparedBal {
     pub anchor: ReadAnchor,
     pub skip: BalSkip,
 }
 
 // The number that `Carried` holds is the host's.
-#[derive(Drop)]
+#[derive(Clone, Copy)]
 pub enum CarryOutcome {
     Carried(u64),
     Cold(Link, BalSkip),
@@ -44,20 +46,20 @@ pub enum CarryOutcome {
 // From storage_memo.rs.
 
 // The Rust's `Option<B256>` in an anchor.
-#[derive(Drop)]
+#[derive(Clone, Copy)]
 pub enum BlockHash {
     Unknown,
     Known(Hash),
 }
 
-#[derive(Drop)]
+#[derive(Clone, Copy)]
 pub struct ReadAnchor {
     pub number: u64,
     pub hash: BlockHash,
 }
 
 // The Rust's `Option<ReadAnchor>`.
-#[derive(Drop)]
+#[derive(Clone, Copy)]
 pub enum AnchorSlot {
     Nothing,
     At(ReadAnchor),

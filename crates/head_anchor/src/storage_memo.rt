@@ -5,6 +5,7 @@ ghost use Rattle.head_anchor.specs.Anchors.{same_block_hash, same_anchor, holds}
 use crate::{AnchorSlot, BlockHash, ReadAnchor};
 use hash::{both, same_hash};
 
+#[tactic(auto, unfolding(crate::specs::Anchors::same_block_hash))]
 pub(crate) fn same_block_hash(a: BlockHash, b: BlockHash) -> bool
     ensures { result ≡ same_block_hash a b }
 {
@@ -21,6 +22,7 @@ pub(crate) fn same_block_hash(a: BlockHash, b: BlockHash) -> bool
 }
 
 // The Rust's `==` on anchors.
+#[tactic(auto, unfolding(crate::specs::Anchors::same_anchor))]
 pub fn same_anchor(a: ReadAnchor, b: ReadAnchor) -> bool
     ensures { result ≡ same_anchor a b }
 {
@@ -30,6 +32,7 @@ pub fn same_anchor(a: ReadAnchor, b: ReadAnchor) -> bool
 }
 
 // The Rust's `slot == Some(a)`.
+#[tactic(auto, unfolding(crate::specs::Anchors::holds))]
 pub fn holds(slot: AnchorSlot, a: ReadAnchor) -> bool
     ensures { result ≡ holds slot a }
 {

@@ -19,6 +19,7 @@ use head_ready::HeadOutcome;
 use head_settle::head_lifecycle::settle;
 use head_wake::head_lifecycle::ending;
 
+#[tactic(auto, unfolding(crate::specs::Apply::settle_as))]
 pub(crate) fn settle_as(
     mut d: Driver,
     anchor: ReadAnchor,
@@ -34,6 +35,7 @@ pub(crate) fn settle_as(
 }
 
 // The refusals 11 and 12 are counted.
+#[tactic(auto, unfolding(head_driver::specs::Parts::with_life))]
 pub(crate) fn discard(mut d: Driver, outcome: HeadOutcome) -> Reply
     ensures { result ≡ reply_of (with_life d (counted d.life Counter.Discarded)) (Answer.Outcome outcome) }
 {
@@ -41,6 +43,7 @@ pub(crate) fn discard(mut d: Driver, outcome: HeadOutcome) -> Reply
     answered(d, Answer::Outcome(outcome))
 }
 
+#[tactic(auto, unfolding(crate::specs::Apply::apply_as))]
 pub(crate) fn admit(
     d: Driver,
     held: HeadDelivery,
@@ -63,6 +66,7 @@ pub(crate) fn admit(
     settle_as(d, held.anchor, outcome, handle, report)
 }
 
+#[tactic(auto, unfolding(crate::specs::Apply::apply_as))]
 pub(crate) fn apply_as(
     d: Driver,
     skip: BalSkip,
@@ -81,6 +85,7 @@ pub(crate) fn apply_as(
 }
 
 // `handle`, `carried` and `report` are the host's numbers for the new hub, for what it carried over and for the report.
+#[tactic(auto, using(head_driver::proofs::Replied::replied), unfolding(crate::specs::Apply::apply))]
 pub fn apply(
     d: Driver,
     ticket: HeadTicket,

@@ -6,6 +6,7 @@ use crate::{ClaimAttempt, HeadCompletion};
 use head_count::Epoch;
 
 // The first end stays.
+#[tactic(auto, unfolding(crate::specs::Attempts::first_end))]
 pub(crate) fn first_end(end: HeadCompletion, later: HeadCompletion) -> HeadCompletion
     ensures { result ≡ first_end end later }
 {
@@ -19,6 +20,7 @@ pub(crate) fn first_end(end: HeadCompletion, later: HeadCompletion) -> HeadCompl
 
 impl ClaimAttempt {
     // An attempt that nothing has ended yet. A delivery's own has epoch 0.
+    #[tactic(auto, unfolding(crate::specs::Attempts::minted))]
     pub fn minted(epoch: Epoch) -> ClaimAttempt
         ensures { result ≡ minted epoch }
     {
@@ -28,6 +30,7 @@ impl ClaimAttempt {
         }
     }
 
+    #[tactic(auto, unfolding(crate::specs::Attempts::settled))]
     pub fn settled(epoch: Epoch) -> ClaimAttempt
         ensures { result ≡ settled epoch }
     {
@@ -37,6 +40,7 @@ impl ClaimAttempt {
         }
     }
 
+    #[tactic(auto, unfolding(crate::specs::Attempts::publish))]
     pub fn publish(self, end: HeadCompletion) -> ClaimAttempt
         ensures { result ≡ publish self end }
     {

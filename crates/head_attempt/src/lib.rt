@@ -1,5 +1,7 @@
 // An attempt to prepare a head and its one end, and the waiters that the end wakes.
 // Knows nothing of heads.
+#![tactic(auto)]
+
 use head_anchor::ReadAnchor;
 use head_count::Epoch;
 
@@ -8,7 +10,7 @@ pub mod head_lifecycle;
 // From head_lifecycle.rs.
 
 // The Rust's `Option<HeadCompletion>`: an attempt that has not ended is open.
-#[derive(Drop)]
+#[derive(Clone, Copy)]
 pub enum HeadCompletion {
     Open,
     Settled,
@@ -16,14 +18,14 @@ pub enum HeadCompletion {
     Abandoned,
 }
 
-#[derive(Drop)]
+#[derive(Clone, Copy)]
 pub struct ClaimAttempt {
     pub epoch: Epoch,
     pub end: HeadCompletion,
 }
 
 // A parked waiter needs no anchor: it waits on the current preparation.
-#[derive(Drop)]
+#[derive(Clone, Copy)]
 pub enum Waiter {
     Free,
     Parked,
@@ -31,7 +33,7 @@ pub enum Waiter {
     Ended(ReadAnchor),
 }
 
-#[derive(Drop)]
+#[derive(Clone, Copy)]
 pub struct WaiterSlot {
     pub waiter: Waiter,
 }

@@ -8,6 +8,7 @@ use head_carry::read_hub::as_prepared;
 
 impl InputRefusal {
     // The refusal's number, or 0 where the input is taken.
+    #[tactic(auto, unfolding(crate::specs::Inputs::input_number))]
     pub fn number(self) -> u64
         ensures { result ≡ input_number self }
     {
@@ -19,6 +20,7 @@ impl InputRefusal {
     }
 }
 
+#[tactic(auto, unfolding(crate::specs::Inputs::list_refusal))]
 pub(crate) fn list_refusal(list: PreparedBal) -> InputRefusal
     ensures { result ≡ list_refusal list }
 {
@@ -29,6 +31,7 @@ pub(crate) fn list_refusal(list: PreparedBal) -> InputRefusal
     }
 }
 
+#[tactic(auto, unfolding(crate::specs::Inputs::waiter_refusal))]
 pub(crate) fn waiter_refusal(n: u64) -> InputRefusal
     ensures { result ≡ waiter_refusal n }
 {
@@ -40,6 +43,7 @@ pub(crate) fn waiter_refusal(n: u64) -> InputRefusal
 }
 
 // Asked before the state is looked at.
+#[tactic(auto, unfolding(crate::specs::Inputs::input_refusal))]
 pub fn input_refusal(call: Call) -> InputRefusal
     ensures { result ≡ input_refusal call }
 {

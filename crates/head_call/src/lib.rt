@@ -1,5 +1,7 @@
 // Every call as a value, and which of them their input alone turns away.
 // Knows nothing of the driver, nor of lines.
+#![tactic(auto)]
+
 use hash::Hash;
 use head_anchor::{AnchorSlot, PreparedBal, ReadAnchor};
 use head_current::{HeadTicket, PrepareClaim};
@@ -7,7 +9,7 @@ use head_current::{HeadTicket, PrepareClaim};
 pub mod head_lifecycle;
 
 // The calls in demand 3's order. The sheet, which changes nothing, is a line's and not a call's here.
-#[derive(Drop)]
+#[derive(Clone, Copy)]
 pub enum Call {
     Deliver(ReadAnchor, Hash, u64),
     Claim(HeadTicket),
@@ -24,7 +26,7 @@ pub enum Call {
 }
 
 // Why a call is turned away by its input alone.
-#[derive(Drop)]
+#[derive(Clone, Copy)]
 pub enum InputRefusal {
     Nothing,
     ListAtOdds,

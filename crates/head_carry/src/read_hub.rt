@@ -7,6 +7,7 @@ use hash::{Hash, same_hash};
 use head_anchor::{AnchorSlot, BalSkip, BlockHash, Link, PreparedBal, ReadAnchor};
 
 // The Rust's `checked_add(1)`: the largest number has no successor.
+#[tactic(auto, unfolding(head_anchor::specs::Links::follows))]
 pub(crate) fn follows(parent: u64, child: u64) -> bool
     ensures { result ≡ follows parent child }
 {
@@ -17,6 +18,7 @@ pub(crate) fn follows(parent: u64, child: u64) -> bool
     }
 }
 
+#[tactic(auto, unfolding(head_anchor::specs::Links::link_by_hash))]
 pub(crate) fn link_by_hash(parent: BlockHash, parent_hash: Hash) -> Link
     ensures { result ≡ link_by_hash parent parent_hash }
 {
@@ -32,6 +34,7 @@ pub(crate) fn link_by_hash(parent: BlockHash, parent_hash: Hash) -> Link
     }
 }
 
+#[tactic(auto, unfolding(head_anchor::specs::Links::classify_link))]
 pub fn classify_link(parent: AnchorSlot, child: ReadAnchor, parent_hash: Hash) -> Link
     ensures { result ≡ classify_link parent child parent_hash }
 {
@@ -48,6 +51,7 @@ pub fn classify_link(parent: AnchorSlot, child: ReadAnchor, parent_hash: Hash) -
     }
 }
 
+#[tactic(auto, unfolding(head_anchor::specs::Lists::has_hash))]
 pub(crate) fn has_hash(hash: BlockHash) -> bool
     ensures { result ≡ has_hash hash }
 {
@@ -57,6 +61,7 @@ pub(crate) fn has_hash(hash: BlockHash) -> bool
     }
 }
 
+#[tactic(auto, unfolding(head_anchor::specs::Lists::is_no_hash))]
 pub(crate) fn is_no_hash(skip: BalSkip) -> bool
     ensures { result ≡ is_no_hash skip }
 {
@@ -69,6 +74,7 @@ pub(crate) fn is_no_hash(skip: BalSkip) -> bool
 }
 
 // Whether `PreparedBal::prepare` could have made the list.
+#[tactic(auto, unfolding(head_anchor::specs::Lists::as_prepared))]
 pub fn as_prepared(list: PreparedBal) -> bool
     ensures { result ≡ as_prepared list }
 {

@@ -17,13 +17,14 @@ use head_driver::{Answer, Driver, Reply};
 use head_life::HeadLifecycle;
 use head_ready::HeadOutcome;
 
-#[derive(Drop)]
+#[derive(Clone, Copy)]
 pub enum ClaimStart {
     Claimed(Epoch),
     Refused(HeadOutcome),
 }
 
 // What a claim of a head with that delivery starts: `next` where the ticket is the head's and the head is not installed.
+#[tactic(auto, unfolding(crate::specs::Starts::claim_gate))]
 pub(crate) fn claim_gate(
     installed: AnchorSlot,
     held: HeadDelivery,
@@ -43,6 +44,7 @@ pub(crate) fn claim_gate(
 }
 
 // What the head's state allows. Of no head nobody asks.
+#[tactic(auto, unfolding(crate::specs::Parts::claim_next))]
 pub(crate) fn claim_next(current: CurrentHead, epoch: Epoch) -> ClaimStart
     ensures { result ≡ claim_next current epoch }
 {
@@ -53,6 +55,7 @@ pub(crate) fn claim_next(current: CurrentHead, epoch: Epoch) -> ClaimStart
     }
 }
 
+#[tactic(auto, unfolding(crate::specs::Parts::start_of))]
 pub(crate) fn claim_start_at(
     installed: AnchorSlot,
     epoch: Epoch,
@@ -69,6 +72,7 @@ pub(crate) fn claim_start_at(
 }
 
 // What a claim would start; `claimed` then takes it.
+#[tactic(auto, unfolding(crate::specs::Parts::start_of, head_current::specs::Heads::delivery, crate::specs::Parts::claim_next, crate::specs::Starts::claim_start))]
 pub(crate) fn claim_start(life: HeadLifecycle, ticket: HeadTicket) -> ClaimStart
     ensures { result ≡ claim_start life ticket }
 {
@@ -77,6 +81,7 @@ pub(crate) fn claim_start(life: HeadLifecycle, ticket: HeadTicket) -> ClaimStart
     claim_start_at(installed.anchor(), life.claim_epoch, current, ticket)
 }
 
+#[tactic(auto, unfolding(crate::specs::Claimed::claimed_head))]
 pub(crate) fn claimed_head(current: CurrentHead, epoch: Epoch) -> CurrentHead
     ensures { result ≡ claimed_head current epoch }
 {
@@ -87,6 +92,7 @@ pub(crate) fn claimed_head(current: CurrentHead, epoch: Epoch) -> CurrentHead
     CurrentHead::Preparing(UnsettledHead { attempt, ..u })
 }
 
+#[tactic(auto, unfolding(crate::specs::Claimed::claimed))]
 pub(crate) fn claimed(life: HeadLifecycle, epoch: Epoch) -> HeadLifecycle
     ensures { result ≡ claimed life epoch }
 {
@@ -94,6 +100,7 @@ pub(crate) fn claimed(life: HeadLifecycle, epoch: Epoch) -> HeadLifecycle
     life.with_head(claimed_head(old, epoch), epoch)
 }
 
+#[tactic(auto, unfolding(crate::specs::Claim::claim_as, head_driver::specs::Parts::with_life))]
 pub(crate) fn claim_taken(mut d: Driver, epoch: Epoch) -> Reply
     ensures { result ≡ claim_as d (ClaimStart.Claimed epoch) }
 {
@@ -101,6 +108,7 @@ pub(crate) fn claim_taken(mut d: Driver, epoch: Epoch) -> Reply
     answered(d, Answer::Claimed(epoch))
 }
 
+#[tactic(auto, using(head_driver::proofs::Replied::replied), unfolding(crate::specs::Claim::claim, crate::specs::Claim::claim_as))]
 pub fn claim(d: Driver, ticket: HeadTicket) -> Reply
     ensures { Replies result (claim d ticket) }
 {

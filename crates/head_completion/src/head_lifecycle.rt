@@ -20,6 +20,7 @@ pub(crate) fn end_of(attempt: ClaimAttempt) -> HeadCompletion
 }
 
 // The end that the current attempt has published.
+#[tactic(auto, unfolding(crate::specs::Ends::published))]
 pub(crate) fn published(current: CurrentHead) -> HeadCompletion
     ensures { result ≡ published current }
 {
@@ -31,6 +32,7 @@ pub(crate) fn published(current: CurrentHead) -> HeadCompletion
     }
 }
 
+#[tactic(auto, unfolding(crate::specs::Ends::end_at))]
 pub(crate) fn end_at(life: HeadLifecycle, anchor: ReadAnchor) -> HeadCompletion
     ensures { result ≡ end_at life anchor }
 {
@@ -42,6 +44,7 @@ pub(crate) fn end_at(life: HeadLifecycle, anchor: ReadAnchor) -> HeadCompletion
     }
 }
 
+#[tactic(auto, using(head_driver::proofs::Replied::replied), unfolding(crate::specs::Completion::completion))]
 pub fn completion(d: Driver, anchor: ReadAnchor) -> Reply
     ensures { Replies result (completion d anchor) }
 {

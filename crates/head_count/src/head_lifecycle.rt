@@ -5,6 +5,7 @@ ghost use Rattle.head_count.specs.Counters.{next_epoch, next_seq, raise, up};
 use crate::{Counter, Epoch, HeadStats, Seq};
 
 // The Rust's `saturating_add(1)`.
+#[tactic(auto, unfolding(crate::specs::Counters::up))]
 pub fn raised(n: u64) -> u64
     ensures { result ≡ up n }
 {
@@ -12,6 +13,7 @@ pub fn raised(n: u64) -> u64
 }
 
 impl Seq {
+    #[tactic(auto, unfolding(crate::specs::Counters::next_seq))]
     pub fn next(self) -> Seq
         ensures { result ≡ next_seq self }
     {
@@ -20,6 +22,7 @@ impl Seq {
 }
 
 impl Epoch {
+    #[tactic(auto, unfolding(crate::specs::Counters::next_epoch))]
     pub fn next(self) -> Epoch
         ensures { result ≡ next_epoch self }
     {
@@ -28,6 +31,7 @@ impl Epoch {
 }
 
 impl HeadStats {
+    #[tactic(auto, unfolding(crate::specs::Counters::raise))]
     pub fn raise(mut self, counter: Counter) -> HeadStats
         ensures { result ≡ raise counter self }
     {

@@ -1,18 +1,20 @@
 // Delivery numbers, epochs and the eight counters.
 // Knows nothing of heads, of attempts or of waiters.
+#![tactic(auto)]
+
 pub mod head_lifecycle;
 
 // From head_lifecycle.rs.
 
 // A delivery number: the Rust's `seq`. A type of its own, so that it is never taken where a claim epoch is asked for.
-#[derive(Drop)]
+#[derive(Clone, Copy)]
 pub struct Seq(pub u64);
 
 // A claim epoch: the Rust's `epoch`.
-#[derive(Drop)]
+#[derive(Clone, Copy)]
 pub struct Epoch(pub u64);
 
-#[derive(Drop)]
+#[derive(Clone, Copy)]
 pub enum Counter {
     Delivered,
     Repeated,
@@ -24,7 +26,7 @@ pub enum Counter {
     ColdViews,
 }
 
-#[derive(Drop)]
+#[derive(Clone, Copy)]
 pub struct HeadStats {
     pub delivered: u64,
     pub repeated: u64,

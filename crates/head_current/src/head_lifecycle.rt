@@ -9,6 +9,7 @@ use head_anchor::storage_memo::same_anchor;
 
 impl HeadDelivery {
     // Whether the ticket is this delivery's.
+    #[tactic(auto, unfolding(crate::specs::Heads::ticket_of, head_count::specs::Counters::same_seq))]
     pub fn has_ticket(self, ticket: HeadTicket) -> bool
         ensures { result ≡ ticket_of self ticket }
     {
@@ -26,6 +27,7 @@ pub(crate) fn held(delivery: HeadDelivery) -> DeliverySlot
 }
 
 impl CurrentHead {
+    #[tactic(auto, unfolding(crate::specs::Heads::delivery))]
     pub fn delivery(self) -> DeliverySlot
         ensures { result ≡ delivery self }
     {
@@ -37,6 +39,7 @@ impl CurrentHead {
         }
     }
 
+    #[tactic(auto, unfolding(crate::specs::Heads::anchor_of))]
     pub fn anchor(self) -> AnchorSlot
         ensures { result ≡ anchor_of (delivery self) }
     {

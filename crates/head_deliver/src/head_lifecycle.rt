@@ -22,12 +22,13 @@ use head_life::HeadLifecycle;
 use head_wake::head_lifecycle::ending;
 
 // Whether a delivery repeats the current head's, and then under which number.
-#[derive(Drop)]
+#[derive(Clone, Copy)]
 pub enum Repeat {
     New,
     Of(Seq),
 }
 
+#[tactic(auto, unfolding(crate::specs::Repeats::same_delivery))]
 pub(crate) fn same_delivery(held: HeadDelivery, anchor: ReadAnchor, parent_hash: Hash) -> bool
     ensures { result ≡ same_delivery held anchor parent_hash }
 {
@@ -37,6 +38,7 @@ pub(crate) fn same_delivery(held: HeadDelivery, anchor: ReadAnchor, parent_hash:
     )
 }
 
+#[tactic(auto, unfolding(crate::specs::Repeats::repeats, crate::specs::Repeats::repeat_of))]
 pub(crate) fn repeats(slot: DeliverySlot, anchor: ReadAnchor, parent_hash: Hash) -> Repeat
     ensures { result ≡ repeats slot anchor parent_hash }
 {
@@ -59,6 +61,7 @@ pub(crate) fn repeated_by(life: HeadLifecycle, anchor: ReadAnchor, parent_hash: 
 }
 
 // The Rust's `provisional().is_some()`.
+#[tactic(auto, unfolding(crate::specs::Delivered::unsettled))]
 pub(crate) fn unsettled(current: CurrentHead) -> bool
     ensures { result ≡ unsettled current }
 {
@@ -71,6 +74,7 @@ pub(crate) fn unsettled(current: CurrentHead) -> bool
 }
 
 // The superseded anchor after a delivery that replaces what was held.
+#[tactic(auto, unfolding(crate::specs::Delivered::replaced))]
 pub(crate) fn replaced(held: DeliverySlot, old: AnchorSlot) -> AnchorSlot
     ensures { result ≡ replaced held old }
 {
@@ -83,6 +87,7 @@ pub(crate) fn replaced(held: DeliverySlot, old: AnchorSlot) -> AnchorSlot
     }
 }
 
+#[tactic(auto, unfolding(crate::specs::Delivered::count_replaced))]
 pub(crate) fn count_replaced(unsettled: bool, stats: HeadStats) -> HeadStats
     ensures { result ≡ count_replaced unsettled stats }
 {
@@ -94,6 +99,7 @@ pub(crate) fn count_replaced(unsettled: bool, stats: HeadStats) -> HeadStats
 }
 
 // `here`: the delivered anchor is installed.
+#[tactic(auto, unfolding(crate::specs::Delivered::count_delivery))]
 pub(crate) fn count_delivery(here: bool, unsettled: bool, stats: HeadStats) -> HeadStats
     ensures { result ≡ count_delivery here unsettled stats }
 {
@@ -105,6 +111,7 @@ pub(crate) fn count_delivery(here: bool, unsettled: bool, stats: HeadStats) -> H
     }
 }
 
+#[tactic(auto, unfolding(crate::specs::Delivered::new_head))]
 pub(crate) fn new_head(here: bool, delivery: HeadDelivery, cold: u64) -> CurrentHead
     ensures { result ≡ new_head here delivery cold }
 {
@@ -125,6 +132,7 @@ pub(crate) fn new_head(here: bool, delivery: HeadDelivery, cold: u64) -> Current
 }
 
 // A delivery that does not repeat the current head.
+#[tactic(auto, unfolding(crate::specs::Delivered::delivered))]
 pub(crate) fn delivered(
     life: HeadLifecycle,
     anchor: ReadAnchor,
@@ -157,6 +165,7 @@ pub(crate) fn delivered(
 }
 
 // A delivery that repeats the current head's.
+#[tactic(auto, unfolding(head_driver::specs::Parts::with_life))]
 pub(crate) fn repeated(mut d: Driver, seq: Seq) -> Reply
     ensures { result ≡ reply_of (with_life d (counted d.life Counter.Repeated)) (Answer.Ticket seq) }
 {
@@ -164,6 +173,7 @@ pub(crate) fn repeated(mut d: Driver, seq: Seq) -> Reply
     answered(d, Answer::Ticket(seq))
 }
 
+#[tactic(auto, unfolding(crate::specs::Deliver::deliver_as))]
 pub(crate) fn deliver_new(mut d: Driver, anchor: ReadAnchor, parent_hash: Hash, cold: u64) -> Reply
     ensures { result ≡ deliver_as d anchor parent_hash cold Repeat.New }
 {
@@ -173,6 +183,7 @@ pub(crate) fn deliver_new(mut d: Driver, anchor: ReadAnchor, parent_hash: Hash, 
     answered(d, Answer::Ticket(seq))
 }
 
+#[tactic(auto, using(head_driver::proofs::Replied::replied), unfolding(crate::specs::Deliver::deliver, crate::specs::Deliver::deliver_as))]
 pub fn deliver(d: Driver, anchor: ReadAnchor, parent_hash: Hash, cold: u64) -> Reply
     ensures { Replies result (deliver d anchor parent_hash cold) }
 {

@@ -1,5 +1,7 @@
 // The driver: the lifecycle with the sixteen waiters, what it answers, and the reply that every call gives.
 // Knows nothing of the calls, nor of lines.
+#![tactic(auto)]
+
 use head_anchor::{AnchorSlot, Link};
 use head_attempt::{HeadCompletion, WaiterSlot};
 use head_count::{Epoch, HeadStats, Seq};
@@ -11,13 +13,13 @@ pub mod head_lifecycle;
 
 // From head_lifecycle.rs: `BalHeadDriver`, and what its calls answer. A call takes the driver by value and gives it back with its answer.
 
-#[derive(Drop)]
+#[derive(Clone, Copy)]
 pub struct Driver {
     pub life: HeadLifecycle,
     pub waiters: [WaiterSlot; 16],
 }
 
-#[derive(Drop)]
+#[derive(Clone, Copy)]
 pub enum Answer {
     Ticket(Seq),
     Claimed(Epoch),
@@ -36,7 +38,7 @@ pub enum Answer {
     WaiterFree,
 }
 
-#[derive(Drop)]
+#[derive(Clone, Copy)]
 pub struct Reply {
     pub driver: Driver,
     pub answer: Answer,

@@ -1,4 +1,6 @@
 // Plays document 01's edges E1 to E10 and E12 on typed calls and prints each answer as document 01 writes it. Knows nothing of call lines.
+#![tactic(auto)]
+
 ghost use Rattle.std.specs.Prelude.{◌≡◌};
 ghost use Rattle.head_driver.specs.Answers.{said};
 ghost use Rattle.head_edges.specs.Shown.{length_of};
@@ -13,9 +15,10 @@ use head_current::{HeadTicket, PrepareClaim};
 use head_driver::{Answer, Driver};
 use head_new::head_lifecycle::new;
 use head_step::head_lifecycle::step;
-use libc::STDOUT_FILENO;
 use script_value::buffer::Written;
+use std::io::{self, Write};
 
+#[tactic(auto, unfolding(crate::specs::Shown::length_of))]
 fn length_of(written: Written) -> usize
     ensures { result ≡ length_of written }
 {
@@ -26,32 +29,32 @@ fn length_of(written: Written) -> usize
 }
 
 // Writes the first bytes of a line and gives their number, since no contract can speak of what is written.
-fn write_front(line: &[u8], n: usize) -> usize
+fn write_front(rt: &impl Print, line: &[u8], n: usize) -> usize
     ensures { result ≡ n }
 {
     if n <= line.len() {
-        io::write_all(STDOUT_FILENO, &line[..n]);
+        let _ = io::writer(rt).write_all(&line[..n]);
     }
     n
 }
 
 // Prints an answer's line and gives its number.
-fn show(answer: Answer) -> u64
+fn show(rt: &impl Print, answer: Answer) -> u64
     ensures { result ≡ (said answer).number }
 {
     let mut line = [0u8; 512];
     let n = length_of(put_line(&mut line, LineAnswer::Said(answer)));
-    write_front(&line, n);
+    write_front(rt, &line, n);
     answer.number()
 }
 
 // Makes a call, prints its answer and gives the driver back.
-fn play(d: Driver, call: Call) -> Driver
+fn play(rt: &impl Print, d: Driver, call: Call) -> Driver
     ensures { result ≡ (step d call).driver }
 {
     let turn = step(d, call);
     let answer = turn.answer;
-    show(answer);
+    show(rt, answer);
     turn.driver
 }
 
@@ -105,32 +108,39 @@ fn list(anchor: ReadAnchor, skip: BalSkip) -> PreparedBal
 }
 
 // E1 to E4: the link test.
-fn links(d: Driver) -> Driver
+fn links(rt: &impl Print, d: Driver) -> Driver
     ensures { result ≡ d }
 {
     let last = ReadAnchor {
         number: 0xffff_ffff_ffff_ffff,
         hash: BlockHash::Known(hash_of(0)),
     };
-    play(d, Call::Link(AnchorSlot::At(last), bare(0), hash_of(0)));
-    play(d, Call::Link(AnchorSlot::At(bare(9)), bare(10), hash_of(0)));
+    play(rt, d, Call::Link(AnchorSlot::At(last), bare(0), hash_of(0)));
     play(
+        rt,
+        d,
+        Call::Link(AnchorSlot::At(bare(9)), bare(10), hash_of(0)),
+    );
+    play(
+        rt,
         d,
         Call::Link(AnchorSlot::At(known(9)), bare(10), hash_of(8)),
     );
     play(
+        rt,
         d,
         Call::Link(AnchorSlot::At(known(9)), bare(10), hash_of(9)),
     );
     d
 }
 
-fn main() {
-    let mut d = links(new());
+fn main(rt: HostRuntime) {
+    let mut d = links(&rt, new());
     // E5, E6: a new driver, claim and apply.
-    d = play(d, Call::Claim(ticket(bare(7), Seq(1))));
-    d = play(d, Call::Stats);
+    d = play(&rt, d, Call::Claim(ticket(bare(7), Seq(1))));
+    d = play(&rt, d, Call::Stats);
     d = play(
+        &rt,
         d,
         Call::Apply(
             ticket(bare(7), Seq(1)),
@@ -140,25 +150,26 @@ fn main() {
             90,
         ),
     );
-    d = play(d, Call::Stats);
+    d = play(&rt, d, Call::Stats);
     // E7: the same anchor under another parent hash.
-    d = play(new(), Call::Deliver(bare(7), hash_of(0), 50));
-    d = play(d, Call::Deliver(bare(7), hash_of(1), 51));
-    d = play(d, Call::Stats);
+    d = play(&rt, new(), Call::Deliver(bare(7), hash_of(0), 50));
+    d = play(&rt, d, Call::Deliver(bare(7), hash_of(1), 51));
+    d = play(&rt, d, Call::Stats);
     // E8: under the same.
-    d = play(new(), Call::Deliver(bare(7), hash_of(0), 50));
-    d = play(d, Call::Deliver(bare(7), hash_of(0), 51));
-    d = play(d, Call::Stats);
+    d = play(&rt, new(), Call::Deliver(bare(7), hash_of(0), 50));
+    d = play(&rt, d, Call::Deliver(bare(7), hash_of(0), 51));
+    d = play(&rt, d, Call::Stats);
     // E9: release with epoch 2 against 1; the head is preparing still.
-    d = play(d, Call::Claim(ticket(bare(7), Seq(1))));
-    d = play(d, Call::Release(owner(Seq(1), Epoch(2))));
-    d = play(d, Call::Claim(ticket(bare(7), Seq(1))));
+    d = play(&rt, d, Call::Claim(ticket(bare(7), Seq(1))));
+    d = play(&rt, d, Call::Release(owner(Seq(1), Epoch(2))));
+    d = play(&rt, d, Call::Claim(ticket(bare(7), Seq(1))));
     // E10: waiter 15 is accepted, 16 refused 3.
-    d = play(new(), Call::Wait(15, bare(7), 51));
-    d = play(d, Call::Wait(16, bare(7), 51));
+    d = play(&rt, new(), Call::Wait(15, bare(7), 51));
+    d = play(&rt, d, Call::Wait(16, bare(7), 51));
     // E12: abandoned, then a carried retry, then resume.
-    d = play(new(), Call::Deliver(known(1), hash_of(0), 50));
+    d = play(&rt, new(), Call::Deliver(known(1), hash_of(0), 50));
     d = play(
+        &rt,
         d,
         Call::Apply(
             ticket(known(1), Seq(1)),
@@ -168,12 +179,13 @@ fn main() {
             90,
         ),
     );
-    d = play(d, Call::Deliver(known(2), hash_of(1), 51));
-    d = play(d, Call::Claim(ticket(known(2), Seq(2))));
-    d = play(d, Call::Wait(0, known(2), 52));
-    d = play(d, Call::Release(owner(Seq(2), Epoch(1))));
-    d = play(d, Call::Claim(ticket(known(2), Seq(2))));
+    d = play(&rt, d, Call::Deliver(known(2), hash_of(1), 51));
+    d = play(&rt, d, Call::Claim(ticket(known(2), Seq(2))));
+    d = play(&rt, d, Call::Wait(0, known(2), 52));
+    d = play(&rt, d, Call::Release(owner(Seq(2), Epoch(1))));
+    d = play(&rt, d, Call::Claim(ticket(known(2), Seq(2))));
     d = play(
+        &rt,
         d,
         Call::Apply(
             ticket(known(2), Seq(2)),
@@ -183,6 +195,6 @@ fn main() {
             91,
         ),
     );
-    d = play(d, Call::Resume(0, 53));
-    play(d, Call::Stats);
+    d = play(&rt, d, Call::Resume(0, 53));
+    play(&rt, d, Call::Stats);
 }

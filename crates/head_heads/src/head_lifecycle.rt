@@ -5,6 +5,7 @@ ghost use Rattle.head_heads.specs.Heads.{heads};
 use head_driver::head_lifecycle::answered;
 use head_driver::{Answer, Driver, Reply};
 
+#[tactic(auto, using(head_driver::proofs::Replied::replied), unfolding(crate::specs::Heads::heads))]
 pub fn heads(d: Driver) -> Reply
     ensures { Replies result (heads d) }
 {

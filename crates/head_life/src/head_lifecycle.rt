@@ -7,6 +7,7 @@ use head_count::{Counter, Epoch};
 use head_current::CurrentHead;
 
 impl HeadLifecycle {
+    #[tactic(auto, unfolding(crate::specs::State::counted))]
     pub fn count(self, counter: Counter) -> HeadLifecycle
         ensures { result ≡ counted self counter }
     {

@@ -1,5 +1,7 @@
 // The head lifecycle: the current head, what is installed, what was installed before it, and the counters.
 // Knows nothing of the calls that move it, of waiters, of answers or of lines.
+#![tactic(auto)]
+
 use head_anchor::AnchorSlot;
 use head_count::{Epoch, HeadStats, Seq};
 use head_current::CurrentHead;
@@ -9,7 +11,7 @@ pub mod head_lifecycle;
 
 // From head_lifecycle.rs.
 
-#[derive(Drop)]
+#[derive(Clone, Copy)]
 pub struct HeadLifecycle {
     pub current: CurrentHead,
     pub superseded: AnchorSlot,

@@ -8,6 +8,7 @@ use head_carry::read_hub::classify_link;
 use head_driver::head_lifecycle::answered;
 use head_driver::{Answer, Driver, Reply};
 
+#[tactic(auto, using(head_driver::proofs::Replied::replied), unfolding(crate::specs::Link::link))]
 pub fn link(d: Driver, parent: AnchorSlot, child: ReadAnchor, parent_hash: Hash) -> Reply
     ensures { Replies result (link d parent child parent_hash) }
 {

@@ -13,6 +13,7 @@ use head_life::HeadLifecycle;
 use head_ready::GenerationSlot;
 
 // The Rust's `HeadStats::default`.
+#[tactic(auto, unfolding(head_count::specs::Counters::none_counted))]
 pub(crate) fn none_counted() -> HeadStats
     ensures { result ≡ none_counted }
 {
@@ -29,6 +30,7 @@ pub(crate) fn none_counted() -> HeadStats
 }
 
 // The Rust's `HeadLifecycle::default`.
+#[tactic(auto, unfolding(head_life::specs::State::no_head))]
 pub(crate) fn no_head() -> HeadLifecycle
     ensures { result ≡ no_head }
 {
@@ -43,6 +45,7 @@ pub(crate) fn no_head() -> HeadLifecycle
     }
 }
 
+#[tactic(auto, unfolding(head_driver::specs::New::new))]
 pub fn new() -> Driver
     ensures { result ≡ new }
 {

@@ -6,6 +6,7 @@ use hash::{Hash, both};
 use head_anchor::{AnchorSlot, BalSkip, CarryOutcome, Link, ReadAnchor};
 use head_carry::read_hub::classify_link;
 
+#[tactic(auto, unfolding(head_anchor::specs::Lists::is_linked))]
 pub(crate) fn is_linked(link: Link) -> bool
     ensures { result ≡ is_linked link }
 {
@@ -18,6 +19,7 @@ pub(crate) fn is_linked(link: Link) -> bool
     }
 }
 
+#[tactic(auto, unfolding(head_anchor::specs::Lists::is_read))]
 pub(crate) fn is_read(skip: BalSkip) -> bool
     ensures { result ≡ is_read skip }
 {
@@ -29,6 +31,7 @@ pub(crate) fn is_read(skip: BalSkip) -> bool
     }
 }
 
+#[tactic(auto, unfolding(head_anchor::specs::Lists::outcome))]
 pub(crate) fn outcome(link: Link, skip: BalSkip, carried: u64) -> CarryOutcome
     ensures { result ≡ outcome link skip carried }
 {
@@ -39,6 +42,7 @@ pub(crate) fn outcome(link: Link, skip: BalSkip, carried: u64) -> CarryOutcome
     }
 }
 
+#[tactic(auto, unfolding(head_anchor::specs::Lists::apply_prepared))]
 pub fn apply_prepared(
     installed: AnchorSlot,
     anchor: ReadAnchor,

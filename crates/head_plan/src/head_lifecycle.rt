@@ -9,13 +9,14 @@ use head_life::HeadLifecycle;
 use head_ready::HeadOutcome;
 
 // A refusal that is counted as discarded stands apart from one that is not.
-#[derive(Drop)]
+#[derive(Clone, Copy)]
 pub enum ApplyPlan {
     Refused(HeadOutcome),
     Discarded(HeadOutcome),
     Admitted(HeadDelivery),
 }
 
+#[tactic(auto, unfolding(crate::specs::Plans::plan_held))]
 pub(crate) fn plan_held(
     installed: AnchorSlot,
     held: HeadDelivery,
@@ -54,6 +55,7 @@ pub(crate) fn plan_at(
     }
 }
 
+#[tactic(auto, unfolding(crate::specs::Plans::plan_apply))]
 pub fn plan_apply(life: HeadLifecycle, ticket: HeadTicket, prepared: ReadAnchor) -> ApplyPlan
     ensures { result ≡ plan_apply life ticket prepared }
 {

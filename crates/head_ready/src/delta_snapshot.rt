@@ -7,6 +7,7 @@ use head_anchor::AnchorSlot;
 
 impl GenerationSlot {
     // The Rust's `DeltaSnapshotCache::anchor`.
+    #[tactic(auto, unfolding(crate::specs::Generations::slot_anchor))]
     pub fn anchor(self) -> AnchorSlot
         ensures { result ≡ slot_anchor self }
     {

@@ -5,6 +5,7 @@ ghost use Rattle.head_ready.specs.Generations.{is_ready};
 use crate::HeadReadiness;
 
 impl HeadReadiness {
+    #[tactic(auto, unfolding(crate::specs::Generations::is_ready))]
     pub fn is_ready(self) -> bool
         ensures { result ≡ is_ready self }
     {

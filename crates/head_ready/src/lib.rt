@@ -1,5 +1,7 @@
 // Readiness, the generations that have it (what is installed, and what was installed before it), views, and the outcome of a claim or an apply.
 // Knows nothing of the current head, of the counters or of waiters.
+#![tactic(auto)]
+
 use head_anchor::{BalSkip, CarryOutcome, Link, ReadAnchor};
 
 pub mod delta_snapshot;
@@ -9,14 +11,14 @@ pub mod head_lifecycle;
 // apply writes them.
 
 // `handle` names the host's hub.
-#[derive(Drop)]
+#[derive(Clone, Copy)]
 pub struct Generation {
     pub anchor: ReadAnchor,
     pub handle: u64,
     pub readiness: HeadReadiness,
 }
 
-#[derive(Drop)]
+#[derive(Clone, Copy)]
 pub enum GenerationSlot {
     Nothing,
     Held(Generation),
@@ -24,7 +26,7 @@ pub enum GenerationSlot {
 
 // From head_lifecycle.rs.
 
-#[derive(Drop)]
+#[derive(Clone, Copy)]
 pub enum HeadCold {
     Unprepared,
     Superseded,
@@ -33,14 +35,14 @@ pub enum HeadCold {
     Settled(Link, BalSkip),
 }
 
-#[derive(Drop)]
+#[derive(Clone, Copy)]
 pub enum HeadReadiness {
     Ready,
     Cold(HeadCold),
 }
 
 // Where a view's handle comes from.
-#[derive(Drop)]
+#[derive(Clone, Copy)]
 pub enum Source {
     Installed,
     Provisional,
@@ -48,14 +50,14 @@ pub enum Source {
     Spare,
 }
 
-#[derive(Drop)]
+#[derive(Clone, Copy)]
 pub struct HeadView {
     pub source: Source,
     pub handle: u64,
     pub readiness: HeadReadiness,
 }
 
-#[derive(Drop)]
+#[derive(Clone, Copy)]
 pub enum HeadOutcome {
     Settled(CarryOutcome),
     AlreadySettled,

@@ -14,6 +14,7 @@ use head_driver::{Answer, Driver, Reply};
 use head_life::HeadLifecycle;
 use head_wake::head_lifecycle::ending;
 
+#[tactic(auto, unfolding(crate::specs::Owners::owns, head_count::specs::Counters::same_epoch, head_count::specs::Counters::same_seq))]
 pub(crate) fn owned_unsettled(u: UnsettledHead, claim: PrepareClaim) -> bool
     ensures { result ≡ owns u claim }
 {
@@ -23,6 +24,7 @@ pub(crate) fn owned_unsettled(u: UnsettledHead, claim: PrepareClaim) -> bool
     )
 }
 
+#[tactic(auto, unfolding(crate::specs::Owners::owned_by))]
 pub(crate) fn owned_by(current: CurrentHead, claim: PrepareClaim) -> bool
     ensures { result ≡ owned_by current claim }
 {
@@ -42,6 +44,7 @@ pub(crate) fn owned(life: HeadLifecycle, claim: PrepareClaim) -> bool
     owned_by(current, claim)
 }
 
+#[tactic(auto, unfolding(crate::specs::Released::released_head))]
 pub(crate) fn release_unsettled(u: UnsettledHead) -> CurrentHead
     ensures { result ≡ released_head (CurrentHead.Preparing u) }
 {
@@ -51,6 +54,7 @@ pub(crate) fn release_unsettled(u: UnsettledHead) -> CurrentHead
 }
 
 // The caller has seen that the claim owns the head.
+#[tactic(auto, unfolding(crate::specs::Released::released_head))]
 pub(crate) fn released_head(current: CurrentHead) -> CurrentHead
     ensures { result ≡ released_head current }
 {
@@ -63,6 +67,7 @@ pub(crate) fn released_head(current: CurrentHead) -> CurrentHead
 }
 
 // The caller has seen that the claim owns the head.
+#[tactic(auto, unfolding(crate::specs::Released::released))]
 pub(crate) fn released(life: HeadLifecycle) -> HeadLifecycle
     ensures { result ≡ released life }
 {
@@ -79,6 +84,7 @@ pub(crate) fn release_owned(d: Driver) -> Reply
     )
 }
 
+#[tactic(auto, using(head_driver::proofs::Replied::replied), unfolding(crate::specs::Release::release))]
 pub fn release(d: Driver, claim: PrepareClaim) -> Reply
     ensures { Replies result (release d claim) }
 {

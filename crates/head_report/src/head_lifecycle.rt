@@ -8,6 +8,7 @@ use head_current::{CurrentHead, LastReport};
 use head_driver::head_lifecycle::answered;
 use head_driver::{Answer, Driver, Reply};
 
+#[tactic(auto, unfolding(crate::specs::Reports::current_report))]
 pub(crate) fn current_report(current: CurrentHead) -> LastReport
     ensures { result ≡ current_report current }
 {
@@ -19,6 +20,7 @@ pub(crate) fn current_report(current: CurrentHead) -> LastReport
     }
 }
 
+#[tactic(auto, using(head_driver::proofs::Replied::replied), unfolding(crate::specs::Report::report))]
 pub fn report(d: Driver) -> Reply
     ensures { Replies result (report d) }
 {

@@ -15,6 +15,7 @@ use head_life::HeadLifecycle;
 use head_ready::{Generation, GenerationSlot, HeadCold, HeadReadiness};
 
 // Whether the attempt has ended abandoned, so that a settle needs a new one.
+#[tactic(auto, unfolding(crate::specs::Settles::abandonment))]
 pub(crate) fn abandoned(u: UnsettledHead) -> bool
     ensures { result ≡ abandonment u }
 {
@@ -28,6 +29,7 @@ pub(crate) fn abandoned(u: UnsettledHead) -> bool
     }
 }
 
+#[tactic(auto, unfolding(crate::specs::Settles::settling_epoch))]
 pub(crate) fn unclaimed_epoch(u: UnsettledHead, epoch: Epoch) -> Epoch
     ensures { result ≡ settling_epoch (CurrentHead.Unclaimed u) epoch }
 {
@@ -62,6 +64,7 @@ pub(crate) fn settle_open(
     settle_with(delivery, report, attempt.publish(HeadCompletion::Settled))
 }
 
+#[tactic(auto, unfolding(crate::specs::Settles::settled_head))]
 pub(crate) fn settle_unclaimed(u: UnsettledHead, epoch: Epoch, report: LastReport) -> CurrentHead
     ensures { result ≡ settled_head (CurrentHead.Unclaimed u) epoch report }
 {
@@ -72,6 +75,7 @@ pub(crate) fn settle_unclaimed(u: UnsettledHead, epoch: Epoch, report: LastRepor
 }
 
 // The epoch counter after a settle: an abandoned attempt's end is not rewritten, so the settle takes a new epoch.
+#[tactic(auto, unfolding(crate::specs::Settles::settling_epoch))]
 pub(crate) fn settling_epoch(current: CurrentHead, epoch: Epoch) -> Epoch
     ensures { result ≡ settling_epoch current epoch }
 {
@@ -84,6 +88,7 @@ pub(crate) fn settling_epoch(current: CurrentHead, epoch: Epoch) -> Epoch
 }
 
 // `epoch` is the epoch counter after the settle.
+#[tactic(auto, unfolding(crate::specs::Settles::settled_head))]
 pub(crate) fn settled_head(current: CurrentHead, epoch: Epoch, report: LastReport) -> CurrentHead
     ensures { result ≡ settled_head current epoch report }
 {
@@ -95,6 +100,7 @@ pub(crate) fn settled_head(current: CurrentHead, epoch: Epoch, report: LastRepor
     }
 }
 
+#[tactic(auto, unfolding(head_ready::specs::Generations::settled_readiness))]
 pub(crate) fn settled_readiness(outcome: CarryOutcome) -> HeadReadiness
     ensures { result ≡ settled_readiness outcome }
 {
@@ -105,6 +111,7 @@ pub(crate) fn settled_readiness(outcome: CarryOutcome) -> HeadReadiness
 }
 
 // What the previous slot holds after an apply with that outcome.
+#[tactic(auto, unfolding(head_ready::specs::Generations::previous_after))]
 pub(crate) fn previous_after(installed: GenerationSlot, outcome: CarryOutcome) -> GenerationSlot
     ensures { result ≡ previous_after installed outcome }
 {
@@ -115,6 +122,7 @@ pub(crate) fn previous_after(installed: GenerationSlot, outcome: CarryOutcome) -
 }
 
 // The Rust's `record_settle` and `settle_current`: an admitted apply at that anchor, with the host's numbers for its hub and its report.
+#[tactic(auto, unfolding(crate::specs::Settles::settle))]
 pub fn settle(
     life: HeadLifecycle,
     anchor: ReadAnchor,

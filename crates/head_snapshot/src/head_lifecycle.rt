@@ -11,6 +11,7 @@ use head_view::head_lifecycle::view_at;
 use view_count::head_lifecycle::count_view;
 
 // Counts the view and answers what is shown of it.
+#[tactic(auto, unfolding(crate::specs::Snapshot::viewed, head_driver::specs::Parts::with_life))]
 pub fn viewed(mut d: Driver, view: HeadView, shown: HeadView) -> Reply
     ensures { result ≡ viewed d view shown }
 {
@@ -19,6 +20,7 @@ pub fn viewed(mut d: Driver, view: HeadView, shown: HeadView) -> Reply
     answered(d, Answer::View(shown))
 }
 
+#[tactic(auto, using(head_driver::proofs::Replied::replied), unfolding(crate::specs::Snapshot::snapshot))]
 pub fn snapshot(d: Driver, anchor: ReadAnchor, spare: u64) -> Reply
     ensures { Replies result (snapshot d anchor spare) }
 {

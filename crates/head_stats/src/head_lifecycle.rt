@@ -5,6 +5,7 @@ ghost use Rattle.head_stats.specs.Stats.{stats};
 use head_driver::head_lifecycle::answered;
 use head_driver::{Answer, Driver, Reply};
 
+#[tactic(auto, using(head_driver::proofs::Replied::replied), unfolding(crate::specs::Stats::stats))]
 pub fn stats(d: Driver) -> Reply
     ensures { Replies result (stats d) }
 {

@@ -21,6 +21,7 @@ use head_stats::head_lifecycle::stats;
 use head_waits::head_lifecycle::{resume, wait};
 
 // Each of these is exported too, and tests its input itself: none relies on a check made outside.
+#[tactic(auto, unfolding(crate::specs::Dispatch::dispatch))]
 pub(crate) fn dispatch(d: Driver, call: Call) -> Reply
     ensures { result ≡ dispatch d call }
 {
@@ -42,6 +43,7 @@ pub(crate) fn dispatch(d: Driver, call: Call) -> Reply
     }
 }
 
+#[tactic(auto, using(head_driver::proofs::Replied::replied), unfolding(crate::specs::Steps::step))]
 pub fn step(d: Driver, call: Call) -> Reply
     ensures { Replies result (step d call) }
 {

@@ -8,6 +8,7 @@ use head_current::{CurrentHead, UnsettledHead};
 use head_life::HeadLifecycle;
 use head_ready::{GenerationSlot, HeadCold, HeadReadiness, HeadView, Source};
 
+#[tactic(auto, unfolding(crate::specs::Views::spare_reason))]
 pub(crate) fn spare_reason(superseded: bool) -> HeadCold
     ensures { result ≡ spare_reason superseded }
 {
@@ -18,6 +19,7 @@ pub(crate) fn spare_reason(superseded: bool) -> HeadCold
     }
 }
 
+#[tactic(auto, unfolding(crate::specs::Views::spare_view))]
 pub(crate) fn spare_view(superseded: AnchorSlot, anchor: ReadAnchor, spare: u64) -> HeadView
     ensures { result ≡ spare_view superseded anchor spare }
 {
@@ -30,6 +32,7 @@ pub(crate) fn spare_view(superseded: AnchorSlot, anchor: ReadAnchor, spare: u64)
 }
 
 // The generation's view if it is at that anchor, else `other`.
+#[tactic(auto, unfolding(crate::specs::Views::generation_view))]
 pub(crate) fn generation_view(
     source: Source,
     slot: GenerationSlot,
@@ -55,6 +58,7 @@ pub(crate) fn generation_view(
     }
 }
 
+#[tactic(auto, unfolding(crate::specs::Views::provisional_view))]
 pub(crate) fn provisional_view(head: UnsettledHead, anchor: ReadAnchor, other: HeadView) -> HeadView
     ensures { result ≡ provisional_view head anchor other }
 {
@@ -70,6 +74,7 @@ pub(crate) fn provisional_view(head: UnsettledHead, anchor: ReadAnchor, other: H
     }
 }
 
+#[tactic(auto, unfolding(crate::specs::Views::current_view))]
 pub(crate) fn current_view(current: CurrentHead, anchor: ReadAnchor, other: HeadView) -> HeadView
     ensures { result ≡ current_view current anchor other }
 {
@@ -82,6 +87,7 @@ pub(crate) fn current_view(current: CurrentHead, anchor: ReadAnchor, other: Head
 }
 
 // What a snapshot at that anchor reads, first that fits. `spare` is the handle of a cold generation that the host made for this call.
+#[tactic(auto, unfolding(crate::specs::Views::view))]
 pub fn view_at(life: HeadLifecycle, anchor: ReadAnchor, spare: u64) -> HeadView
     ensures { result ≡ view life anchor spare }
 {

@@ -17,6 +17,7 @@ use head_ready::{HeadCold, HeadReadiness, HeadView, Source};
 use head_snapshot::head_lifecycle::viewed;
 use head_view::head_lifecycle::view_at;
 
+#[tactic(auto, unfolding(crate::specs::Calls::unowned_reason))]
 pub(crate) fn unowned_reason(reason: HeadCold) -> HeadCold
     ensures { result ≡ unowned_reason reason }
 {
@@ -30,6 +31,7 @@ pub(crate) fn unowned_reason(reason: HeadCold) -> HeadCold
 }
 
 // What a wait shows of a view that no live preparation owns.
+#[tactic(auto, unfolding(crate::specs::Calls::unowned, crate::specs::Calls::unowned_readiness))]
 pub(crate) fn unowned(view: HeadView) -> HeadView
     ensures { result ≡ unowned view }
 {
@@ -44,6 +46,7 @@ pub(crate) fn unowned(view: HeadView) -> HeadView
 }
 
 // The answer of a wait that an abandonment ended: never ready, and never a hub that a later retry settled.
+#[tactic(auto, unfolding(crate::specs::Calls::abandoned_view))]
 pub(crate) fn abandoned_view(view: HeadView, spare: u64) -> HeadView
     ensures { result ≡ abandoned_view view spare }
 {
@@ -69,6 +72,7 @@ pub(crate) fn put_waiter(mut waiters: [WaiterSlot; 16], n: u64, waiter: Waiter) 
     waiters
 }
 
+#[tactic(auto, unfolding(crate::specs::Calls::put))]
 pub(crate) fn put(mut d: Driver, n: u64, waiter: Waiter) -> Driver
     ensures { result ≡ put d n waiter }
 {
@@ -79,6 +83,7 @@ pub(crate) fn put(mut d: Driver, n: u64, waiter: Waiter) -> Driver
 }
 
 // Past the sixteenth there is none, which reads as a free one.
+#[tactic(auto, unfolding(crate::specs::Parts::numbered, crate::specs::Calls::waiter_at))]
 pub(crate) fn waiter_at(waiters: [WaiterSlot; 16], n: u64) -> Waiter
     ensures { result ≡ numbered waiters n }
 {
@@ -91,6 +96,7 @@ pub(crate) fn waiter_at(waiters: [WaiterSlot; 16], n: u64) -> Waiter
 }
 
 // A view counts, and frees the number.
+#[tactic(auto, unfolding(crate::specs::Calls::viewed_by, head_snapshot::specs::Snapshot::viewed, head_driver::specs::Parts::with_life, crate::specs::Calls::put))]
 pub(crate) fn viewed_by(d: Driver, n: u64, view: HeadView, shown: HeadView) -> Reply
     ensures { result ≡ viewed_by d n view shown }
 {
@@ -104,6 +110,7 @@ pub(crate) fn park(d: Driver, n: u64) -> Reply
 }
 
 // Whether a preparation is live at that anchor.
+#[tactic(auto, unfolding(crate::specs::Calls::preparing_at))]
 pub(crate) fn preparing_at(life: HeadLifecycle, anchor: ReadAnchor) -> bool
     ensures { result ≡ preparing_at life.current anchor }
 {
@@ -115,6 +122,7 @@ pub(crate) fn preparing_at(life: HeadLifecycle, anchor: ReadAnchor) -> bool
 }
 
 // One turn of the Rust's loop: park on the live preparation at that anchor, or answer.
+#[tactic(auto, unfolding(crate::specs::Calls::join))]
 pub(crate) fn join(d: Driver, n: u64, anchor: ReadAnchor, spare: u64) -> Reply
     ensures { result ≡ join d n anchor spare }
 {
@@ -126,6 +134,7 @@ pub(crate) fn join(d: Driver, n: u64, anchor: ReadAnchor, spare: u64) -> Reply
 }
 
 // Whether there is a waiter of that number, and it is free.
+#[tactic(auto, unfolding(crate::specs::Parts::is_free))]
 pub(crate) fn is_free(waiters: [WaiterSlot; 16], n: u64) -> bool
     ensures { result ≡ is_free (numbered waiters n) (ltb n 16) }
 {
@@ -135,6 +144,7 @@ pub(crate) fn is_free(waiters: [WaiterSlot; 16], n: u64) -> bool
     n < 16
 }
 
+#[tactic(auto, unfolding(crate::specs::Parts::wait_refusal))]
 pub(crate) fn wait_refusal(n: u64) -> Answer
     ensures { result ≡ wait_refusal n }
 {
@@ -144,6 +154,7 @@ pub(crate) fn wait_refusal(n: u64) -> Answer
     Answer::WaiterOutOfRange
 }
 
+#[tactic(auto, using(head_driver::proofs::Replied::replied), unfolding(crate::specs::Parts::is_free, crate::specs::Calls::wait_as, crate::specs::Calls::wait, crate::specs::Parts::wait_refusal, crate::specs::Parts::numbered))]
 pub fn wait(d: Driver, n: u64, anchor: ReadAnchor, spare: u64) -> Reply
     ensures { Replies result (wait d n anchor spare) }
 {
@@ -154,6 +165,7 @@ pub fn wait(d: Driver, n: u64, anchor: ReadAnchor, spare: u64) -> Reply
     answered(d, wait_refusal(n))
 }
 
+#[tactic(auto, unfolding(crate::specs::Calls::resume_as))]
 pub(crate) fn view_abandoned(d: Driver, n: u64, anchor: ReadAnchor, spare: u64) -> Reply
     ensures { result ≡ resume_as d (Waiter.Abandoned anchor) n spare }
 {
@@ -161,6 +173,7 @@ pub(crate) fn view_abandoned(d: Driver, n: u64, anchor: ReadAnchor, spare: u64) 
     viewed_by(d, n, view, abandoned_view(view, spare))
 }
 
+#[tactic(auto, unfolding(crate::specs::Parts::resume_refusal))]
 pub(crate) fn resume_refusal(n: u64) -> Answer
     ensures { result ≡ resume_refusal n }
 {
@@ -170,6 +183,7 @@ pub(crate) fn resume_refusal(n: u64) -> Answer
     Answer::WaiterOutOfRange
 }
 
+#[tactic(auto, using(head_driver::proofs::Replied::replied), unfolding(crate::specs::Calls::resume_as, crate::specs::Calls::resume, crate::specs::Parts::numbered, crate::specs::Parts::resume_refusal))]
 pub fn resume(d: Driver, n: u64, spare: u64) -> Reply
     ensures { Replies result (resume d n spare) }
 {

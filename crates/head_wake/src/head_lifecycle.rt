@@ -9,6 +9,7 @@ use head_current::CurrentHead;
 use head_driver::Driver;
 use head_life::HeadLifecycle;
 
+#[tactic(auto, unfolding(head_attempt::specs::Waiters::woken))]
 pub(crate) fn woken(end: HeadCompletion, anchor: ReadAnchor, waiter: Waiter) -> Waiter
     ensures { result ≡ woken end anchor waiter }
 {
@@ -26,6 +27,7 @@ pub(crate) fn woken(end: HeadCompletion, anchor: ReadAnchor, waiter: Waiter) -> 
 }
 
 // The preparation at that anchor has ended, and so has the wait of everyone parked on it.
+#[tactic(auto, using(crate::proofs::Wakes::wake_from, crate::proofs::Wakes::from_zero, crate::proofs::Wakes::from_next, crate::proofs::Wakes::from_end))]
 pub(crate) fn wake(
     end: HeadCompletion,
     anchor: ReadAnchor,
@@ -46,6 +48,7 @@ pub(crate) fn wake(
 }
 
 // Only a preparing head has waiters parked on it.
+#[tactic(auto, unfolding(head_driver::specs::Parts::wake_current))]
 pub(crate) fn wake_current(
     end: HeadCompletion,
     life: HeadLifecycle,

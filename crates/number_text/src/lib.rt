@@ -1,5 +1,7 @@
 // Numbers as decimal text into a lent buffer, bare and behind a name.
 // Knows nothing of what a number stands for.
+#![tactic(auto)]
+
 ghost use Rattle.std.specs.Prelude.{◌+◌, ◌≤◌, ◌++◌, length};
 ghost use Rattle.text.specs.Ascii.{ascii};
 ghost use Rattle.text.specs.Decimals.{decimal};
@@ -8,6 +10,7 @@ ghost use Rattle.text.specs.Writes.{Wrote};
 use text_put::put::{put, put_byte};
 
 // Puts a number. Its digits come last first, so they are laid out beside the buffer.
+#[tactic(auto, using(text::proofs::Writes::wrote_as, crate::proofs::DecimalFill::filled_start, crate::proofs::DecimalFill::filled_left, crate::proofs::DecimalFill::filled_more, crate::proofs::DecimalFill::filled_done))]
 pub fn put_decimal(buf: &mut [u8], at: usize, n: u64) -> usize
     requires { at + 20 ≤ length buf.old }
     ensures wrote { Wrote buf.old buf.new at result (decimal n) }
@@ -26,6 +29,7 @@ pub fn put_decimal(buf: &mut [u8], at: usize, n: u64) -> usize
 }
 
 // Puts a number behind its name, which begins with a bracket and ends with a space, and closes the bracket.
+#[tactic(auto, using(text::proofs::Writes::then))]
 pub fn put_named(buf: &mut [u8], at: usize, name: &[u8], n: u64) -> usize
     requires { at + (length name.now + 21) ≤ length buf.old }
     ensures wrote { Wrote buf.old buf.new at result (name.now ++ (decimal n ++ ascii ")")) }

@@ -1,6 +1,8 @@
 // replay: makes the calls of the recorded runs in `runs` and counts the answers that are not the recorded ones. The recording is lines, each
 // marked by its first byte: `#N` begins a run whose nine counters all stand at N, `>CALL` is a call, and the `<TEXT` lines before it are its answer.
 // Knows nothing of how answers come about, nor of what the Rust is.
+#![tactic(auto)]
+
 ghost use Rattle.std.specs.Prelude.{◌≤◌, ◌≡◌, length};
 ghost use Rattle.head_count.specs.Counters.{stats_of};
 ghost use Rattle.replay.specs.Recordings.{Collects, Counts, TakesAnswer, TakesRecord, after_answer, after_call, at_run, begun, call_compared, compared, fresh, mark_of, number_of, run_begun, same_front, started};
@@ -13,16 +15,17 @@ use head_current::CurrentHead;
 use head_driver::Driver;
 use head_life::HeadLifecycle;
 use head_ready::GenerationSlot;
-use libc::STDOUT_FILENO;
 use pending::keep;
 use script::finish;
+use std::fs::File;
+use std::io::{self, Read};
 use text::place::Place;
 use text_decimal::take_decimal;
 use text_put::put::put;
 use text_same::same;
 
 // What was counted.
-#[derive(Drop)]
+#[derive(Clone, Copy)]
 struct Tally {
     runs: u64,
     answers: u64,
@@ -30,7 +33,7 @@ struct Tally {
 }
 
 // Where a replay stands: what was counted, how many bytes of the next call's answer were collected, and how many bytes of a line are held.
-#[derive(Drop)]
+#[derive(Clone, Copy)]
 struct Standing {
     tally: Tally,
     wanted: usize,
@@ -38,12 +41,13 @@ struct Standing {
 }
 
 // The same with the run's driver.
-#[derive(Drop)]
+#[derive(Clone, Copy)]
 struct Replay {
     driver: Driver,
     standing: Standing,
 }
 
+#[tactic(auto, unfolding(crate::specs::Recordings::begun))]
 fn begun(t: Tally) -> Tally
     ensures { result ≡ begun t }
 {
@@ -53,6 +57,7 @@ fn begun(t: Tally) -> Tally
     }
 }
 
+#[tactic(auto, unfolding(crate::specs::Recordings::compared))]
 fn compared(t: Tally, equal: bool) -> Tally
     ensures { result ≡ compared t equal }
 {
@@ -68,6 +73,7 @@ fn compared(t: Tally, equal: bool) -> Tally
 }
 
 // Whether the first bytes of two buffers are the same text.
+#[tactic(auto, unfolding(crate::specs::Recordings::same_front))]
 fn same_front(a: &[u8], m: usize, b: &[u8], n: usize) -> bool
     ensures { result ≡ same_front a.now m b.now n }
 {
@@ -96,6 +102,7 @@ fn all_at(n: u64) -> HeadStats
 }
 
 // A new driver but for its nine counters, which all stand at `n`; seq is delivered.
+#[tactic(auto, unfolding(crate::specs::Recordings::started))]
 fn started(n: u64) -> Driver
     ensures { result ≡ started n }
 {
@@ -117,6 +124,7 @@ fn started(n: u64) -> Driver
 }
 
 // A line of the recorded answer, with its line feed, behind those before it. One that finds no room is left out.
+#[tactic(auto, using(crate::proofs::Replaying::no_room, crate::proofs::Replaying::with_room))]
 fn collected(wanted: usize, line: &[u8], want: &mut [u8]) -> usize
     ensures { Collects wanted line.now want.old want.new result }
 {
@@ -131,6 +139,7 @@ fn collected(wanted: usize, line: &[u8], want: &mut [u8]) -> usize
 }
 
 // The mark of a line; 0 where there is none.
+#[tactic(auto, using(crate::proofs::Replaying::mark_empty, crate::proofs::Replaying::mark_first, crate::proofs::Replaying::mark_none))]
 fn mark(line: &[u8], held: usize) -> u8
     ensures { result ≡ mark_of line.now held }
 {
@@ -144,6 +153,7 @@ fn mark(line: &[u8], held: usize) -> u8
 }
 
 // The line is collected if it is one of an answer.
+#[tactic(auto, using(crate::proofs::Replaying::is_answer, crate::proofs::Replaying::none_held, crate::proofs::Replaying::not_answer, crate::proofs::Replaying::not_there))]
 fn answer_taken(mark: u8, wanted: usize, line: &[u8], held: usize, want: &mut [u8]) -> usize
     ensures { TakesAnswer mark wanted line.now held want.old want.new result }
 {
@@ -160,6 +170,7 @@ fn answer_taken(mark: u8, wanted: usize, line: &[u8], held: usize, want: &mut [u
 }
 
 // The number behind the mark; 0 where there is none.
+#[tactic(auto, using(crate::proofs::Replaying::number_read), unfolding(crate::specs::Recordings::number_of))]
 fn number(line: &[u8], held: usize) -> u64
     ensures { result ≡ number_of line.now held }
 {
@@ -171,6 +182,7 @@ fn number(line: &[u8], held: usize) -> u64
 }
 
 // After a call whose answer was compared.
+#[tactic(auto, unfolding(crate::specs::Recordings::after_call))]
 fn after_call(s: Standing, equal: bool) -> Standing
     ensures { result ≡ after_call s equal }
 {
@@ -182,6 +194,7 @@ fn after_call(s: Standing, equal: bool) -> Standing
 }
 
 // The call behind the mark is made, and its answer compared with what was collected.
+#[tactic(auto, using(crate::proofs::Replaying::compares))]
 fn call_compared(
     d: Driver,
     s: Standing,
@@ -202,6 +215,7 @@ fn call_compared(
 }
 
 // At the begin of a run.
+#[tactic(auto, unfolding(crate::specs::Recordings::at_run))]
 fn at_run(s: Standing) -> Standing
     ensures { result ≡ at_run s }
 {
@@ -212,6 +226,7 @@ fn at_run(s: Standing) -> Standing
     }
 }
 
+#[tactic(auto, unfolding(crate::specs::Recordings::run_begun))]
 fn run_begun(s: Standing, n: u64) -> Replay
     ensures { result ≡ run_begun s n }
 {
@@ -223,6 +238,7 @@ fn run_begun(s: Standing, n: u64) -> Replay
 }
 
 // After a line of an answer.
+#[tactic(auto, unfolding(crate::specs::Recordings::after_answer))]
 fn after_answer(s: Standing, wanted: usize) -> Standing
     ensures { result ≡ after_answer s wanted }
 {
@@ -234,6 +250,7 @@ fn after_answer(s: Standing, wanted: usize) -> Standing
 }
 
 // A line of the recording.
+#[tactic(auto, using(crate::proofs::Replaying::marked_held, crate::proofs::Replaying::marked_line, crate::proofs::Replaying::taken_call, crate::proofs::Replaying::taken_other, crate::proofs::Replaying::taken_run))]
 fn record_taken(d: Driver, s: Standing, line: &[u8], want: &mut [u8], out: &mut [u8]) -> Replay
     ensures { TakesRecord d s line.now want.old want.new out.old result }
 {
@@ -253,6 +270,7 @@ fn record_taken(d: Driver, s: Standing, line: &[u8], want: &mut [u8], out: &mut 
 }
 
 // All that a read brought. Each turn takes the input up to the end of a line, or to its end.
+#[tactic(auto, using(crate::proofs::Replaying::counts_none, crate::proofs::Replaying::less_left, crate::proofs::Replaying::record_follows))]
 fn lines_taken(
     start: Replay,
     pending: &mut [u8],
@@ -280,6 +298,7 @@ fn lines_taken(
 }
 
 // Before the first line.
+#[tactic(auto, unfolding(crate::specs::Recordings::fresh))]
 fn fresh() -> Replay
     ensures { result ≡ fresh }
 {
@@ -298,42 +317,34 @@ fn fresh() -> Replay
     }
 }
 
-fn print(t: Tally) {
-    io::print_decimal(STDOUT_FILENO, t.runs);
-    io::write_all(STDOUT_FILENO, b" runs, ");
-    io::print_decimal(STDOUT_FILENO, t.answers);
-    io::write_all(STDOUT_FILENO, b" answers, ");
-    io::print_decimal(STDOUT_FILENO, t.differences);
-    io::write_all(STDOUT_FILENO, b" differences\n");
+fn print(rt: &impl Print, t: Tally) -> io::Result<()> {
+    println!(rt;
+        "{} runs, {} answers, {} differences",
+        t.runs, t.answers, t.differences
+    )
 }
 
-// A proved loop has to end, and nothing says that a file does. So the loop counts its reads down, from a number that no run uses up.
-fn counted(fd: i32) -> Tally
+// A proved loop has to end, and nothing says that a file does. So the loop counts its reads, to a number that no run reaches.
+#[tactic(auto, using(crate::proofs::Replaying::fresh_fewer))]
+fn counted<R: Read>(reader: &mut R) -> Tally
     ensures { result.differences ≤ result.answers }
 {
     let mut pending = [0u8; 514];
     let mut want = [0u8; 4096];
     let mut out = [0u8; 4096];
-    let mut input = io::large_buffer();
+    let mut input = [0u8; 65536];
     let mut now = fresh();
-    let mut more = true;
-    let mut turns = u64::MAX;
-    while turns > 0 && more {
-        let got = libc::read(fd, &mut input);
-        let n = io::count(got, &input);
+    for _ in 0..u64::MAX {
+        let n = reader.read(&mut input).unwrap_or(0);
         now = lines_taken(now, &mut pending, &input[..n], &mut want, &mut out);
-        more = n > 0;
-        turns -= 1;
+        if n == 0 {
+            break;
+        }
     }
     now.standing.tally
 }
 
-fn main() {
-    let fd = os::open_read(b"runs");
-    if fd < 0 {
-        os::fail(b"runs");
-        return;
-    }
-    print(counted(fd));
-    libc::close(fd);
+fn main(rt: HostRuntime) -> io::Result<()> {
+    let mut file = File::open(&rt, "runs")?;
+    print(&rt, counted(&mut file))
 }

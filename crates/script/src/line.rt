@@ -9,6 +9,7 @@ use driver::{LineAnswer, put_line, take_line};
 use head_driver::Driver;
 use script_value::buffer::Written;
 
+#[tactic(auto, unfolding(crate::specs::Parts::bytes_written))]
 pub(crate) fn bytes_written(written: Written) -> usize
     ensures { result ≡ bytes_written written }
 {
@@ -19,6 +20,7 @@ pub(crate) fn bytes_written(written: Written) -> usize
 }
 
 // A sheet stands in the buffer already.
+#[tactic(auto, using(crate::proofs::Printing::puts_line, crate::proofs::Printing::puts_sheet), unfolding(crate::specs::Parts::answer_length))]
 pub(crate) fn put_answer(out: &mut [u8], answer: LineAnswer) -> usize
     requires { 512 ≤ length out.old }
     ensures { PutsAnswer answer out.old out.new result }
@@ -31,6 +33,7 @@ pub(crate) fn put_answer(out: &mut [u8], answer: LineAnswer) -> usize
 }
 
 // Answers a line at the front of a buffer, which serves as the sheet's buffer too.
+#[tactic(auto, using(crate::proofs::Printing::prints_line))]
 pub(crate) fn print_line(d: Driver, line: &[u8], out: &mut [u8]) -> Printed
     requires { 4096 ≤ length out.old }
     ensures { Prints (prints d (call line.now)) (leaves d (call line.now)) out.old out.new result }

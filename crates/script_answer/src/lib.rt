@@ -1,5 +1,7 @@
 // Answers as lines, into the caller's buffer: those of calls, and those of lines that are no call or ask for a sheet.
 // Knows nothing of calls, nor of the driver that answers them.
+#![tactic(auto)]
+
 ghost use Rattle.std.specs.Prelude.{◌+◌, ◌≤◌, length};
 ghost use Rattle.script_answer.specs.Answers.{answer_line, line_text};
 ghost use Rattle.script_value.specs.Buffers.{AtFront};
@@ -17,7 +19,7 @@ mod lines;
 mod outcomes;
 
 // What a line is answered with. A sheet stands in the caller's buffer, this many bytes of it, and has no answer line.
-#[derive(Drop)]
+#[derive(Clone, Copy)]
 pub enum LineAnswer {
     Said(Answer),
     NoCall,
@@ -26,6 +28,7 @@ pub enum LineAnswer {
 }
 
 // No answer is longer than `heads`, 271 bytes; every one has the room that a host is asked for, but for the line feed.
+#[tactic(auto, unfolding(script_reads::specs::Parts::read_or_bare))]
 pub(crate) fn put_text(buf: &mut [u8], at: usize, answer: Answer) -> usize
     requires { at + 511 ≤ length buf.old }
     ensures wrote { Wrote buf.old buf.new at result (answer_text answer) }
@@ -41,6 +44,7 @@ pub(crate) fn put_text(buf: &mut [u8], at: usize, answer: Answer) -> usize
 }
 
 // Puts an answer's line at the front of the buffer.
+#[tactic(auto, using(text::proofs::Writes::then), unfolding(crate::specs::Answers::answer_line))]
 pub(crate) fn put_answer(buf: &mut [u8], answer: Answer) -> usize
     requires { 512 ≤ length buf.old }
     ensures wrote { Wrote buf.old buf.new 0 result (answer_line answer) }
@@ -50,6 +54,7 @@ pub(crate) fn put_answer(buf: &mut [u8], answer: Answer) -> usize
     put_byte(buf, i, b'\n')
 }
 
+#[tactic(auto, unfolding(crate::specs::Answers::line_text))]
 pub(crate) fn put_line_text(buf: &mut [u8], answer: LineAnswer) -> usize
     requires { 512 ≤ length buf.old }
     ensures wrote { Wrote buf.old buf.new 0 result (line_text answer) }
@@ -65,6 +70,7 @@ pub(crate) fn put_line_text(buf: &mut [u8], answer: LineAnswer) -> usize
 
 // Writes the answer's line, with its line feed, at the front of a buffer of 512 bytes or more. Every answer asks for the
 // same room, so that a host that lends 512 bytes is never refused.
+#[tactic(auto, using(script_value::proofs::Fronts::at_front, script_value::proofs::Fronts::too_short))]
 pub fn put_line(buf: &mut [u8], answer: LineAnswer) -> Written
     ensures { AtFront 512 buf.old buf.new (line_text answer) result }
 {

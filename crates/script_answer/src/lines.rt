@@ -12,6 +12,7 @@ use number_text::{put_decimal, put_named};
 use script_ready::put_readiness;
 use text_put::put::{put, put_byte};
 
+#[tactic(auto, unfolding(script_value::specs::Lines::answer_text, script_value::specs::Lines::said_text, head_driver::specs::Answers::said, script_value::specs::Lines::refusal_on, value_text::specs::Values::values_on, value_text::specs::Values::value_text, value_text::specs::Words::word_text))]
 pub(crate) fn put_ticket(buf: &mut [u8], at: usize, seq: Seq) -> usize
     requires { at + 29 ≤ length buf.old }
     ensures wrote { Wrote buf.old buf.new at result (answer_text (Answer.Ticket seq)) }
@@ -20,6 +21,7 @@ pub(crate) fn put_ticket(buf: &mut [u8], at: usize, seq: Seq) -> usize
     put_named(buf, at, b"(ticket ", seq.0)
 }
 
+#[tactic(auto, unfolding(script_value::specs::Lines::answer_text, script_value::specs::Lines::said_text, head_driver::specs::Answers::said, script_value::specs::Lines::refusal_on, value_text::specs::Values::values_on, value_text::specs::Values::value_text, value_text::specs::Words::word_text))]
 pub(crate) fn put_claimed(buf: &mut [u8], at: usize, epoch: Epoch) -> usize
     requires { at + 30 ≤ length buf.old }
     ensures wrote { Wrote buf.old buf.new at result (answer_text (Answer.Claimed epoch)) }
@@ -29,6 +31,7 @@ pub(crate) fn put_claimed(buf: &mut [u8], at: usize, epoch: Epoch) -> usize
 }
 
 // Puts `(view SOURCE `, up to the view's handle: each source has its whole text here, so that no word needs a writer of its own.
+#[tactic(auto, unfolding(script_outcome::specs::Texts::source_text, head_driver::specs::Answers::source_value, value_text::specs::Values::value_text, value_text::specs::Words::word_text))]
 pub(crate) fn put_view_source(buf: &mut [u8], at: usize, source: Source) -> usize
     requires { at + 18 ≤ length buf.old }
     ensures wrote { Wrote buf.old buf.new at result (ascii "(view " ++ (source_text source ++ ascii " ")) }
@@ -43,6 +46,7 @@ pub(crate) fn put_view_source(buf: &mut [u8], at: usize, source: Source) -> usiz
 }
 
 // The one place where what follows a view's handle is written.
+#[tactic(auto, using(text::proofs::Writes::then, text::proofs::Writes::wrote_as), unfolding(script_value::specs::Lines::answer_text, script_value::specs::Lines::said_text, head_driver::specs::Answers::said, script_value::specs::Lines::refusal_on, value_text::specs::Values::values_on, value_text::specs::Values::value_text, value_text::specs::Words::word_text, script_outcome::specs::Texts::source_text, script_outcome::specs::Texts::readiness_text))]
 pub(crate) fn put_view(buf: &mut [u8], at: usize, view: HeadView) -> usize
     requires { at + 92 ≤ length buf.old }
     ensures wrote { Wrote buf.old buf.new at result (answer_text (Answer.View view)) }

@@ -14,25 +14,26 @@ use text_decimal::take_decimal;
 use text_place::{past, past_byte};
 
 // A block's hash and the place after it; unknown where reading has stopped.
-#[derive(Drop)]
+#[derive(Clone, Copy)]
 pub struct BlockHashFrom {
     pub value: BlockHash,
     pub next: Place,
 }
 
-#[derive(Drop)]
+#[derive(Clone, Copy)]
 pub struct AnchorFrom {
     pub value: ReadAnchor,
     pub next: Place,
 }
 
-#[derive(Drop)]
+#[derive(Clone, Copy)]
 pub struct SlotFrom {
     pub value: AnchorSlot,
     pub next: Place,
 }
 
 // HASH or `none`. The word is looked for once: it is a keyword or a hash.
+#[tactic(auto, using(crate::proofs::ValuesPlaces::block_hash_none, crate::proofs::ValuesPlaces::block_hash_known, crate::proofs::ValuesPlaces::block_hash_bad))]
 pub(crate) fn take_block_hash(line: &[u8], from: Place) -> BlockHashFrom
     ensures { Reads line.now result.value result.next (read_block_hash Page.Line (here line.now from)) }
 {
@@ -61,6 +62,7 @@ pub(crate) fn take_block_hash(line: &[u8], from: Place) -> BlockHashFrom
 }
 
 // `(NUMBER HASH)` or `(NUMBER none)`.
+#[tactic(auto, using(crate::proofs::ValuesPlaces::anchor_spaced))]
 pub(crate) fn spaced_anchor(line: &[u8], from: Place) -> AnchorFrom
     ensures { Reads line.now result.value result.next (spaced_anchor (here line.now from)) }
 {
@@ -79,6 +81,7 @@ pub(crate) fn spaced_anchor(line: &[u8], from: Place) -> AnchorFrom
 }
 
 // An anchor or `none`. No word stands before an anchor's bracket, so the word is `none` or empty.
+#[tactic(auto, using(crate::proofs::ValuesPlaces::slot_none, crate::proofs::ValuesPlaces::slot_anchor))]
 pub(crate) fn spaced_slot(line: &[u8], from: Place) -> SlotFrom
     ensures { Reads line.now result.value result.next (spaced_slot (here line.now from)) }
 {

@@ -1,5 +1,7 @@
 // Call lines: from the bytes of a line to the call that they write, or to no call. The values of a call are read in `spaced`, `anchor` and `skip`.
 // Knows nothing of what a call does, nor of answers.
+#![tactic(auto)]
+
 ghost use Rattle.std.specs.Prelude.{◌≡◌};
 ghost use Rattle.script_call.specs.Calls.{ends as Calls·ends, closed as Calls·closed, spaced_ticket, spaced_list, deliver_call, claim_call, release_call, apply_call, snapshot_call, wait_call, resume_call, completion_call, link_call, report_call, stats_call, heads_call, sheet_call, call_named, later_named, call};
 ghost use Rattle.script_call.specs.Dispatch.{view_named, bare_named};
@@ -22,7 +24,7 @@ mod skip;
 mod spaced;
 
 // What a line asks for. The sheet is no call on the driver: it is written into the caller's buffer.
-#[derive(Drop)]
+#[derive(Clone, Copy)]
 pub enum LineCall {
     NoCall,
     Sheet,
@@ -30,20 +32,21 @@ pub enum LineCall {
 }
 
 // A ticket and the place after it.
-#[derive(Drop)]
+#[derive(Clone, Copy)]
 pub struct TicketFrom {
     pub value: HeadTicket,
     pub next: Place,
 }
 
 // A prepared list and the place after it.
-#[derive(Drop)]
+#[derive(Clone, Copy)]
 pub struct ListFrom {
     pub value: PreparedBal,
     pub next: Place,
 }
 
 // Whether one bracket is all that is left of the line.
+#[tactic(auto, using(crate::proofs::Places::ends_is))]
 pub(crate) fn ends(line: &[u8], from: Place) -> bool
     ensures { result ≡ Calls·ends (here line.now from) }
 {
@@ -51,6 +54,7 @@ pub(crate) fn ends(line: &[u8], from: Place) -> bool
 }
 
 // The call, where the line ends with it.
+#[tactic(auto, unfolding(crate::specs::Calls::closed))]
 pub(crate) fn closed(line: &[u8], from: Place, call: Call) -> LineCall
     ensures { result ≡ Calls·closed (here line.now from) call }
 {
@@ -61,6 +65,7 @@ pub(crate) fn closed(line: &[u8], from: Place, call: Call) -> LineCall
 }
 
 // ` A SEQ`: a delivery, as a claim and an apply name it.
+#[tactic(auto, using(crate::proofs::Places::ticket_is))]
 pub(crate) fn spaced_ticket(line: &[u8], from: Place) -> TicketFrom
     ensures { Reads line.now result.value result.next (spaced_ticket (here line.now from)) }
 {
@@ -79,6 +84,7 @@ pub(crate) fn spaced_ticket(line: &[u8], from: Place) -> TicketFrom
 }
 
 // ` A X`: the list that an apply takes.
+#[tactic(auto, using(crate::proofs::Places::list_is))]
 pub(crate) fn spaced_list(line: &[u8], from: Place) -> ListFrom
     ensures { Reads line.now result.value result.next (spaced_list (here line.now from)) }
 {
@@ -95,6 +101,7 @@ pub(crate) fn spaced_list(line: &[u8], from: Place) -> ListFrom
 }
 
 // `(deliver A P H)`, from the place after its keyword.
+#[tactic(auto, using(crate::proofs::Places::deliver_is))]
 pub(crate) fn deliver_call(line: &[u8], from: Place) -> LineCall
     ensures { result ≡ deliver_call (here line.now from) }
 {
@@ -110,6 +117,7 @@ pub(crate) fn deliver_call(line: &[u8], from: Place) -> LineCall
 }
 
 // `(claim A SEQ)`
+#[tactic(auto, using(crate::proofs::Places::claim_is))]
 pub(crate) fn claim_call(line: &[u8], from: Place) -> LineCall
     ensures { result ≡ claim_call (here line.now from) }
 {
@@ -120,6 +128,7 @@ pub(crate) fn claim_call(line: &[u8], from: Place) -> LineCall
 }
 
 // `(release SEQ EPOCH)`
+#[tactic(auto, using(crate::proofs::Places::release_is))]
 pub(crate) fn release_call(line: &[u8], from: Place) -> LineCall
     ensures { result ≡ release_call (here line.now from) }
 {
@@ -135,6 +144,7 @@ pub(crate) fn release_call(line: &[u8], from: Place) -> LineCall
 }
 
 // `(apply A SEQ A X H C REPORT)`
+#[tactic(auto, using(crate::proofs::Places::apply_is))]
 pub(crate) fn apply_call(line: &[u8], from: Place) -> LineCall
     ensures { result ≡ apply_call (here line.now from) }
 {
@@ -158,6 +168,7 @@ pub(crate) fn apply_call(line: &[u8], from: Place) -> LineCall
 }
 
 // `(snapshot A H)`
+#[tactic(auto, using(crate::proofs::Places::snapshot_is))]
 pub(crate) fn snapshot_call(line: &[u8], from: Place) -> LineCall
     ensures { result ≡ snapshot_call (here line.now from) }
 {
@@ -170,6 +181,7 @@ pub(crate) fn snapshot_call(line: &[u8], from: Place) -> LineCall
 }
 
 // `(wait N A H)`
+#[tactic(auto, using(crate::proofs::Places::wait_is))]
 pub(crate) fn wait_call(line: &[u8], from: Place) -> LineCall
     ensures { result ≡ wait_call (here line.now from) }
 {
@@ -184,6 +196,7 @@ pub(crate) fn wait_call(line: &[u8], from: Place) -> LineCall
 }
 
 // `(resume N H)`
+#[tactic(auto, using(crate::proofs::Places::resume_is))]
 pub(crate) fn resume_call(line: &[u8], from: Place) -> LineCall
     ensures { result ≡ resume_call (here line.now from) }
 {
@@ -195,6 +208,7 @@ pub(crate) fn resume_call(line: &[u8], from: Place) -> LineCall
 }
 
 // `(completion A)`
+#[tactic(auto, using(crate::proofs::Places::completion_is))]
 pub(crate) fn completion_call(line: &[u8], from: Place) -> LineCall
     ensures { result ≡ completion_call (here line.now from) }
 {
@@ -205,6 +219,7 @@ pub(crate) fn completion_call(line: &[u8], from: Place) -> LineCall
 }
 
 // `(link A A P)` or `(link none A P)`
+#[tactic(auto, using(crate::proofs::Places::link_is))]
 pub(crate) fn link_call(line: &[u8], from: Place) -> LineCall
     ensures { result ≡ link_call (here line.now from) }
 {
@@ -221,6 +236,7 @@ pub(crate) fn link_call(line: &[u8], from: Place) -> LineCall
 }
 
 // `(report)`
+#[tactic(auto, unfolding(crate::specs::Calls::report_call))]
 pub(crate) fn report_call(line: &[u8], from: Place) -> LineCall
     ensures { result ≡ report_call (here line.now from) }
 {
@@ -228,6 +244,7 @@ pub(crate) fn report_call(line: &[u8], from: Place) -> LineCall
 }
 
 // `(stats)`
+#[tactic(auto, unfolding(crate::specs::Calls::stats_call))]
 pub(crate) fn stats_call(line: &[u8], from: Place) -> LineCall
     ensures { result ≡ stats_call (here line.now from) }
 {
@@ -235,6 +252,7 @@ pub(crate) fn stats_call(line: &[u8], from: Place) -> LineCall
 }
 
 // `(heads)`
+#[tactic(auto, unfolding(crate::specs::Calls::heads_call))]
 pub(crate) fn heads_call(line: &[u8], from: Place) -> LineCall
     ensures { result ≡ heads_call (here line.now from) }
 {
@@ -242,6 +260,7 @@ pub(crate) fn heads_call(line: &[u8], from: Place) -> LineCall
 }
 
 // `(sheet)`
+#[tactic(auto, unfolding(crate::specs::Calls::sheet_call))]
 pub(crate) fn sheet_call(line: &[u8], from: Place) -> LineCall
     ensures { result ≡ sheet_call (here line.now from) }
 {
@@ -252,6 +271,7 @@ pub(crate) fn sheet_call(line: &[u8], from: Place) -> LineCall
 }
 
 // The calls of a keyword alone.
+#[tactic(auto, using(crate::proofs::Named::report_named, crate::proofs::Named::stats_named, crate::proofs::Named::heads_named, crate::proofs::Named::sheet_named, crate::proofs::Named::none_named))]
 pub(crate) fn by_bare_word(line: &[u8], word: &[u8], from: Place) -> LineCall
     ensures { result ≡ bare_named word.now (here line.now from) }
 {
@@ -271,6 +291,7 @@ pub(crate) fn by_bare_word(line: &[u8], word: &[u8], from: Place) -> LineCall
 }
 
 // The calls that come last in document 01: of one anchor, of a link, and those of a keyword alone.
+#[tactic(auto, using(crate::proofs::Named::completion_named, crate::proofs::Named::link_named, crate::proofs::Named::bare_is))]
 pub(crate) fn by_later_word(line: &[u8], word: &[u8], from: Place) -> LineCall
     ensures { result ≡ later_named word.now (here line.now from) }
 {
@@ -284,6 +305,7 @@ pub(crate) fn by_later_word(line: &[u8], word: &[u8], from: Place) -> LineCall
 }
 
 // The calls that ask for a view, now or in turn, and those after them.
+#[tactic(auto, using(crate::proofs::Named::snapshot_named, crate::proofs::Named::wait_named, crate::proofs::Named::resume_named, crate::proofs::Named::later_is))]
 pub(crate) fn by_view_word(line: &[u8], word: &[u8], from: Place) -> LineCall
     ensures { result ≡ view_named word.now (here line.now from) }
 {
@@ -300,6 +322,7 @@ pub(crate) fn by_view_word(line: &[u8], word: &[u8], from: Place) -> LineCall
 }
 
 // The call of a keyword, with the place after it: in four functions, in document 01's order.
+#[tactic(auto, using(crate::proofs::Named::deliver_named, crate::proofs::Named::claim_named, crate::proofs::Named::release_named, crate::proofs::Named::apply_named, crate::proofs::Named::view_is))]
 pub(crate) fn by_word(line: &[u8], word: &[u8], from: Place) -> LineCall
     ensures { result ≡ call_named word.now (here line.now from) }
 {
@@ -319,6 +342,7 @@ pub(crate) fn by_word(line: &[u8], word: &[u8], from: Place) -> LineCall
 }
 
 // The call of a line, which comes without its line feed. An empty line has no bracket, and so is no call. No call is longer than 297 bytes; 512 is document 01's limit for a line.
+#[tactic(auto, using(crate::proofs::Places::line_long, crate::proofs::Places::line_is))]
 pub fn read_call(line: &[u8]) -> LineCall
     ensures { result ≡ call line.now }
 {

@@ -11,13 +11,14 @@ use text_place::{past, past_byte};
 use text_same::same;
 
 // A skip and the place after it; none where reading has stopped.
-#[derive(Drop)]
+#[derive(Clone, Copy)]
 pub struct SkipFrom {
     pub value: BalSkip,
     pub next: Place,
 }
 
 // `rpc N)` or `decode N)`: what follows the bracket of a skip that holds a number.
+#[tactic(auto, using(crate::proofs::ValuesPlaces::failure_rpc, crate::proofs::ValuesPlaces::failure_decode, crate::proofs::ValuesPlaces::failure_none))]
 pub(crate) fn take_failure(line: &[u8], from: Place) -> SkipFrom
     ensures { Reads line.now result.value result.next (read_failure (here line.now from)) }
 {
@@ -44,6 +45,7 @@ pub(crate) fn take_failure(line: &[u8], from: Place) -> SkipFrom
 }
 
 // `none`, `no-hash`, `(rpc N)` or `(decode N)`, after one space.
+#[tactic(auto, using(crate::proofs::ValuesPlaces::skip_none, crate::proofs::ValuesPlaces::skip_no_hash, crate::proofs::ValuesPlaces::skip_failure))]
 pub(crate) fn spaced_skip(line: &[u8], from: Place) -> SkipFrom
     ensures { Reads line.now result.value result.next (spaced_skip (here line.now from)) }
 {

@@ -18,7 +18,7 @@ use text_place::{past, past_byte};
 use text_same::same;
 
 // A hash and the place after it; all zeros where reading has stopped.
-#[derive(Drop)]
+#[derive(Clone, Copy)]
 pub struct HashFrom {
     pub value: Hash,
     pub next: Place,
@@ -32,6 +32,7 @@ pub(crate) fn is_none(word: &[u8]) -> bool
 }
 
 // A delivery number, an epoch, a waiter's number, or a number of the host's.
+#[tactic(auto, using(crate::proofs::ValuesPlaces::number_spaced))]
 pub(crate) fn spaced_number(line: &[u8], from: Place) -> NumberFrom
     ensures { Reads line.now result.value result.next (spaced_number (here line.now from)) }
 {
@@ -39,6 +40,7 @@ pub(crate) fn spaced_number(line: &[u8], from: Place) -> NumberFrom
 }
 
 // The hash of the word at a place, and the place after the word.
+#[tactic(auto, using(crate::proofs::ValuesPlaces::hash_got_lem, crate::proofs::ValuesPlaces::hash_bad))]
 pub(crate) fn take_hash(line: &[u8], from: Place) -> HashFrom
     ensures { Reads line.now result.value result.next (read_hash (here line.now from)) }
 {
@@ -61,6 +63,7 @@ pub(crate) fn take_hash(line: &[u8], from: Place) -> HashFrom
 }
 
 // A parent hash, which is never `none`.
+#[tactic(auto, using(crate::proofs::ValuesPlaces::hash_spaced))]
 pub(crate) fn spaced_hash(line: &[u8], from: Place) -> HashFrom
     ensures { Reads line.now result.value result.next (spaced_hash (here line.now from)) }
 {

@@ -1,6 +1,8 @@
 // Outcomes as text, into a lent buffer, for lines and sheets alike: one writer for each value.
 // No hash stands in an outcome, so its text is the same on a line and on a sheet. Its code knows nothing of what
 // holds an outcome; its definitions have the texts of reports, readiness, sources and ends too.
+#![tactic(auto)]
+
 ghost use Rattle.std.specs.Prelude.{◌+◌, ◌≤◌, length};
 ghost use Rattle.script_outcome.specs.Texts.{cold_text, outcome_text};
 ghost use Rattle.value_text.specs.Texts.{skip_text};
@@ -12,6 +14,7 @@ use number_text::put_named;
 use text_put::put::{put, put_byte};
 
 // Puts why a list was not read, or `none`.
+#[tactic(auto, unfolding(value_text::specs::Texts::skip_text, head_anchor::specs::Values::skip_value, value_text::specs::Values::value_text, value_text::specs::Words::word_text))]
 pub(crate) fn put_skip(buf: &mut [u8], at: usize, skip: BalSkip) -> usize
     requires { at + 29 ≤ length buf.old }
     ensures wrote { Wrote buf.old buf.new at result (skip_text skip) }
@@ -26,6 +29,7 @@ pub(crate) fn put_skip(buf: &mut [u8], at: usize, skip: BalSkip) -> usize
 }
 
 // Puts `(cold LINK SKIP)`.
+#[tactic(auto, using(text::proofs::Writes::then), unfolding(crate::specs::Texts::cold_text, value_text::specs::Texts::fault_text, value_text::specs::Texts::skip_text, value_text::specs::Values::value_text, value_text::specs::Words::word_text))]
 pub(crate) fn put_cold(buf: &mut [u8], at: usize, link: Link, skip: BalSkip) -> usize
     requires { at + 52 ≤ length buf.old }
     ensures wrote { Wrote buf.old buf.new at result (cold_text link skip) }
@@ -39,6 +43,7 @@ pub(crate) fn put_cold(buf: &mut [u8], at: usize, link: Link, skip: BalSkip) -> 
 }
 
 // Puts `(carried C)` or `(cold LINK SKIP)`.
+#[tactic(auto, unfolding(crate::specs::Texts::outcome_text, head_anchor::specs::Values::outcome_value, crate::specs::Texts::cold_text, value_text::specs::Values::value_text, value_text::specs::Words::word_text))]
 pub fn put_outcome(buf: &mut [u8], at: usize, outcome: CarryOutcome) -> usize
     requires { at + 52 ≤ length buf.old }
     ensures wrote { Wrote buf.old buf.new at result (outcome_text outcome) }

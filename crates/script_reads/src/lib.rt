@@ -1,5 +1,7 @@
 // The lines of the answers of calls that only read (completion, link, report, stats, heads), and of answers without values.
 // Knows nothing of the other answers, of line feeds, nor of the driver that answers.
+#![tactic(auto)]
+
 ghost use Rattle.std.specs.Prelude.{◌+◌, ◌≤◌, true, [], ◌≡◌, length};
 ghost use Rattle.head_driver.specs.Answers.{said};
 ghost use Rattle.script_reads.specs.Parts.{read_or_bare};
@@ -14,6 +16,7 @@ use text_put::put::put;
 mod lines;
 
 // An answer without values is a word or a refusal's number alone.
+#[tactic(auto, using(text::proofs::Writes::wrote_as), unfolding(script_value::specs::Lines::answer_text, script_value::specs::Lines::said_text, head_driver::specs::Answers::said, head_driver::specs::Answers::outcome_said, head_driver::specs::Answers::stats_values, script_value::specs::Lines::refusal_on, value_text::specs::Values::values_on, value_text::specs::Words::word_text, text::specs::Decimals::decimal, text::specs::Decimals::decimal_on))]
 pub(crate) fn put_bare(buf: &mut [u8], at: usize, answer: Answer) -> usize
     requires at_in_bounds { at + 30 ≤ length buf.old }
     requires answer_value { (said answer).values ≡ [] }
@@ -28,6 +31,7 @@ pub(crate) fn put_bare(buf: &mut [u8], at: usize, answer: Answer) -> usize
 }
 
 // The answers of the calls that only read, and those without values.
+#[tactic(auto, unfolding(head_driver::specs::Answers::said, crate::specs::Parts::read_or_bare))]
 pub fn put_read(buf: &mut [u8], at: usize, answer: Answer) -> usize
     requires at_in_bounds { at + 511 ≤ length buf.old }
     requires answer_value { read_or_bare answer ≡ true }

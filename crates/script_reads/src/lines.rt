@@ -16,6 +16,7 @@ use slot_text::put_slot;
 use text_put::put::{put, put_byte};
 use value_text::page::Page;
 
+#[tactic(auto, unfolding(script_value::specs::Lines::answer_text, script_value::specs::Lines::said_text, head_driver::specs::Answers::said, head_driver::specs::Answers::end_value, script_value::specs::Lines::refusal_on, value_text::specs::Values::values_on, value_text::specs::Values::value_text, value_text::specs::Words::word_text))]
 pub(crate) fn put_completion(buf: &mut [u8], at: usize, end: HeadCompletion) -> usize
     requires { at + 23 ≤ length buf.old }
     ensures wrote { Wrote buf.old buf.new at result (answer_text (Answer.Completion end)) }
@@ -30,6 +31,7 @@ pub(crate) fn put_completion(buf: &mut [u8], at: usize, end: HeadCompletion) -> 
 }
 
 // Puts how a link stands: `linked`, or what is wrong with it.
+#[tactic(auto, using(text::proofs::Writes::wrote_as), unfolding(value_text::specs::Texts::fault_text, value_text::specs::Texts::link_text, head_anchor::specs::Values::fault_value, head_anchor::specs::Values::link_value, value_text::specs::Values::value_text, value_text::specs::Words::word_text))]
 pub(crate) fn put_link_word(buf: &mut [u8], at: usize, link: Link) -> usize
     requires { at + 15 ≤ length buf.old }
     ensures wrote { Wrote buf.old buf.new at result (link_text link) }
@@ -41,6 +43,7 @@ pub(crate) fn put_link_word(buf: &mut [u8], at: usize, link: Link) -> usize
     }
 }
 
+#[tactic(auto, using(text::proofs::Writes::then), unfolding(script_value::specs::Lines::answer_text, script_value::specs::Lines::said_text, head_driver::specs::Answers::said, script_value::specs::Lines::refusal_on, value_text::specs::Values::values_on, value_text::specs::Words::word_text, value_text::specs::Texts::link_text))]
 pub(crate) fn put_link(buf: &mut [u8], at: usize, link: Link) -> usize
     requires { at + 22 ≤ length buf.old }
     ensures wrote { Wrote buf.old buf.new at result (answer_text (Answer.Link link)) }
@@ -51,6 +54,7 @@ pub(crate) fn put_link(buf: &mut [u8], at: usize, link: Link) -> usize
     put_byte(buf, j, b')')
 }
 
+#[tactic(auto, using(text::proofs::Writes::then), unfolding(script_value::specs::Lines::answer_text, script_value::specs::Lines::said_text, head_driver::specs::Answers::said, script_value::specs::Lines::refusal_on, value_text::specs::Values::values_on, value_text::specs::Values::value_text, value_text::specs::Words::word_text, script_outcome::specs::Texts::report_text))]
 pub(crate) fn put_report_line(buf: &mut [u8], at: usize, report: LastReport) -> usize
     requires { at + 84 ≤ length buf.old }
     ensures wrote { Wrote buf.old buf.new at result (answer_text (Answer.Report report)) }
@@ -61,6 +65,7 @@ pub(crate) fn put_report_line(buf: &mut [u8], at: usize, report: LastReport) -> 
     put_byte(buf, j, b')')
 }
 
+#[tactic(auto, using(text::proofs::Writes::then, text::proofs::Writes::wrote_as, crate::proofs::Statistics::stats_line))]
 pub(crate) fn put_stats_line(buf: &mut [u8], at: usize, stats: HeadStats) -> usize
     requires { at + 175 ≤ length buf.old }
     ensures wrote { Wrote buf.old buf.new at result (answer_text (Answer.Stats stats)) }
@@ -71,6 +76,7 @@ pub(crate) fn put_stats_line(buf: &mut [u8], at: usize, stats: HeadStats) -> usi
     put_byte(buf, j, b')')
 }
 
+#[tactic(auto, using(text::proofs::Writes::then), unfolding(script_value::specs::Lines::answer_text, script_value::specs::Lines::said_text, head_driver::specs::Answers::said, script_value::specs::Lines::refusal_on, value_text::specs::Values::values_on, value_text::specs::Values::value_text, value_text::specs::Words::word_text, value_text::specs::Texts::slot_text))]
 pub(crate) fn put_heads(
     buf: &mut [u8],
     at: usize,

@@ -10,6 +10,7 @@ use sheet_generations::put_generations;
 use sheet_lines::put_count_to_superseded;
 
 // Puts what the sheet shows of a lifecycle: all as it is stored but for the superseded anchor. Attempt epochs and the head's seq are not written.
+#[tactic(auto, using(text::proofs::Writes::then, text::proofs::Writes::wrote_as, crate::proofs::Shown::life_shown))]
 pub(crate) fn put_life(buf: &mut [u8], at: usize, life: HeadLifecycle) -> usize
     requires { at + 892 ≤ length buf.old }
     ensures wrote { Wrote buf.old buf.new at result (life_lines (shown_life life)) }

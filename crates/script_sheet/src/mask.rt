@@ -19,6 +19,7 @@ pub(crate) fn is_settled(current: CurrentHead) -> bool
     }
 }
 
+#[tactic(auto, unfolding(alike::specs::Canon::masked))]
 pub(crate) fn masked(current: CurrentHead, previous: GenerationSlot, anchor: ReadAnchor) -> bool
     ensures { result ≡ masked current previous anchor }
 {
@@ -29,6 +30,7 @@ pub(crate) fn masked(current: CurrentHead, previous: GenerationSlot, anchor: Rea
     }
 }
 
+#[tactic(auto, unfolding(alike::specs::Canon::shown_superseded, alike::specs::Canon::mask_by))]
 pub(crate) fn shown_superseded(
     current: CurrentHead,
     previous: GenerationSlot,

@@ -1,7 +1,7 @@
 // What writing a whole text into the caller's buffer gives.
 
 // How many bytes were written; none are where the buffer is too short.
-#[derive(Drop)]
+#[derive(Clone, Copy)]
 pub enum Written {
     TooShort,
     Bytes(usize),

@@ -8,6 +8,7 @@ use number_text::put_decimal;
 use text_put::put::put_byte;
 
 // Puts ` N`.
+#[tactic(auto, using(text::proofs::Writes::then), unfolding(crate::specs::Texts::spaced_text))]
 pub fn put_spaced(buf: &mut [u8], at: usize, n: u64) -> usize
     requires { at + 21 ≤ length buf.old }
     ensures wrote { Wrote buf.old buf.new at result (spaced_text n) }
@@ -17,6 +18,7 @@ pub fn put_spaced(buf: &mut [u8], at: usize, n: u64) -> usize
     put_decimal(buf, i, n)
 }
 
+#[tactic(auto, using(text::proofs::Writes::then), unfolding(crate::specs::Texts::four_text))]
 pub(crate) fn put_four(buf: &mut [u8], at: usize, a: u64, b: u64, c: u64, d: u64) -> usize
     requires { at + 84 ≤ length buf.old }
     ensures wrote { Wrote buf.old buf.new at result (four_text a b c d) }
@@ -29,6 +31,7 @@ pub(crate) fn put_four(buf: &mut [u8], at: usize, a: u64, b: u64, c: u64, d: u64
 }
 
 // Puts the counters in order, each after a space.
+#[tactic(auto, using(text::proofs::Writes::then, text::proofs::Writes::wrote_as, crate::proofs::Halves::stats_split))]
 pub fn put_stats(buf: &mut [u8], at: usize, s: HeadStats) -> usize
     requires { at + 168 ≤ length buf.old }
     ensures wrote { Wrote buf.old buf.new at result (stats_text s) }

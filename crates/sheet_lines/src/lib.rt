@@ -1,5 +1,7 @@
 // The lines of a sheet, and the writers of its first three, each with its line feed, into a lent buffer: the counters, the current head, the superseded anchor.
 // Knows nothing of what a sheet leaves out.
+#![tactic(auto)]
+
 ghost use Rattle.std.specs.Prelude.{◌+◌, ◌≤◌, length, ◌++◌};
 ghost use Rattle.script_outcome.specs.Texts.{report_text};
 ghost use Rattle.sheet_lines.specs.Lines.{unclaimed_end_text, delivery_text, unsettled_text, count_line, current_line, superseded_line};
@@ -21,6 +23,7 @@ use value_text::page::Page;
 mod lines;
 
 // Puts how an unclaimed head's attempt stands, and the end of its line.
+#[tactic(auto, using(text::proofs::Writes::wrote_as, crate::proofs::UnclaimedEnds::open_end), unfolding(crate::specs::Lines::unclaimed_end_text))]
 pub(crate) fn put_unclaimed_end(buf: &mut [u8], at: usize, end: HeadCompletion) -> usize
     requires { at + 12 ≤ length buf.old }
     ensures wrote { Wrote buf.old buf.new at result (ascii " " ++ (unclaimed_end_text end ++ ascii ")\n")) }
@@ -37,6 +40,7 @@ pub(crate) fn put_unclaimed_end(buf: &mut [u8], at: usize, end: HeadCompletion) 
 }
 
 // Puts `A P`.
+#[tactic(auto, using(text::proofs::Writes::then), unfolding(crate::specs::Lines::delivery_text, value_text::specs::Values::hash_text))]
 pub(crate) fn put_delivery(buf: &mut [u8], at: usize, held: HeadDelivery) -> usize
     requires { at + 152 ≤ length buf.old }
     ensures wrote { Wrote buf.old buf.new at result (delivery_text held) }
@@ -48,6 +52,7 @@ pub(crate) fn put_delivery(buf: &mut [u8], at: usize, held: HeadDelivery) -> usi
 }
 
 // Puts `A P H`.
+#[tactic(auto, using(text::proofs::Writes::then), unfolding(crate::specs::Lines::unsettled_text))]
 pub(crate) fn put_unsettled(buf: &mut [u8], at: usize, head: UnsettledHead) -> usize
     requires { at + 173 ≤ length buf.old }
     ensures wrote { Wrote buf.old buf.new at result (unsettled_text head) }
@@ -57,6 +62,7 @@ pub(crate) fn put_unsettled(buf: &mut [u8], at: usize, head: UnsettledHead) -> u
     put_spaced(buf, i, head.provisional)
 }
 
+#[tactic(auto, using(text::proofs::Writes::then), unfolding(crate::specs::Lines::current_line))]
 pub(crate) fn put_unclaimed(buf: &mut [u8], at: usize, head: UnsettledHead) -> usize
     requires { at + 204 ≤ length buf.old }
     ensures wrote { Wrote buf.old buf.new at result (current_line (CurrentHead.Unclaimed head)) }
@@ -69,6 +75,7 @@ pub(crate) fn put_unclaimed(buf: &mut [u8], at: usize, head: UnsettledHead) -> u
     put_unclaimed_end(buf, j, end)
 }
 
+#[tactic(auto, using(text::proofs::Writes::then), unfolding(crate::specs::Lines::current_line))]
 pub(crate) fn put_preparing(buf: &mut [u8], at: usize, head: UnsettledHead) -> usize
     requires { at + 194 ≤ length buf.old }
     ensures wrote { Wrote buf.old buf.new at result (current_line (CurrentHead.Preparing head)) }
@@ -80,6 +87,7 @@ pub(crate) fn put_preparing(buf: &mut [u8], at: usize, head: UnsettledHead) -> u
 }
 
 // Puts a settled head's report, and the end of its line.
+#[tactic(auto, using(text::proofs::Writes::then))]
 pub(crate) fn put_told(buf: &mut [u8], at: usize, report: LastReport) -> usize
     requires { at + 78 ≤ length buf.old }
     ensures wrote { Wrote buf.old buf.new at result (ascii " " ++ (report_text report ++ ascii ")\n")) }
@@ -90,6 +98,7 @@ pub(crate) fn put_told(buf: &mut [u8], at: usize, report: LastReport) -> usize
     put(buf, j, b")\n")
 }
 
+#[tactic(auto, using(text::proofs::Writes::then), unfolding(crate::specs::Lines::current_line))]
 pub(crate) fn put_settled(buf: &mut [u8], at: usize, head: SettledHead) -> usize
     requires { at + 247 ≤ length buf.old }
     ensures wrote { Wrote buf.old buf.new at result (current_line (CurrentHead.Settled head)) }
@@ -101,6 +110,7 @@ pub(crate) fn put_settled(buf: &mut [u8], at: usize, head: SettledHead) -> usize
     put_told(buf, j, report)
 }
 
+#[tactic(auto, unfolding(crate::specs::Lines::current_line))]
 pub(crate) fn put_current(buf: &mut [u8], at: usize, current: CurrentHead) -> usize
     requires { at + 247 ≤ length buf.old }
     ensures wrote { Wrote buf.old buf.new at result (current_line current) }
@@ -115,6 +125,7 @@ pub(crate) fn put_current(buf: &mut [u8], at: usize, current: CurrentHead) -> us
 }
 
 // Puts the lines from the counters' to the superseded anchor's.
+#[tactic(auto, using(text::proofs::Writes::then))]
 pub fn put_count_to_superseded(
     buf: &mut [u8],
     at: usize,

@@ -1,5 +1,7 @@
 // The lines of a sheet for the waiters, each with its line feed, into a lent buffer.
 // Knows nothing of a sheet's other lines.
+#![tactic(auto)]
+
 ghost use Rattle.std.specs.Prelude.{◌+◌, ◌≤◌, length, ◌++◌};
 ghost use Rattle.sheet_lines.specs.Lines.{waiter_line, waiter_lines};
 ghost use Rattle.text.specs.Ascii.{ascii};
@@ -16,6 +18,7 @@ use value_text::anchor::put_anchor;
 use value_text::page::Page;
 
 // Puts `(wait N`, as every line of a waiter begins.
+#[tactic(auto, using(text::proofs::Writes::then))]
 pub(crate) fn put_number(buf: &mut [u8], at: usize, n: u64) -> usize
     requires { at + 26 ≤ length buf.old }
     ensures wrote { Wrote buf.old buf.new at result (ascii "(wait " ++ decimal n) }
@@ -26,6 +29,7 @@ pub(crate) fn put_number(buf: &mut [u8], at: usize, n: u64) -> usize
 }
 
 // Puts the end of a preparation, a word between spaces, and the anchor that was prepared.
+#[tactic(auto, using(text::proofs::Writes::then))]
 pub(crate) fn put_woken(buf: &mut [u8], at: usize, end: &[u8], anchor: ReadAnchor) -> usize
     requires { at + (length end.now + 89) ≤ length buf.old }
     ensures wrote { Wrote buf.old buf.new at result (end.now ++ (anchor_text Page.Sheet anchor ++ ascii ")\n")) }
@@ -37,6 +41,7 @@ pub(crate) fn put_woken(buf: &mut [u8], at: usize, end: &[u8], anchor: ReadAncho
 }
 
 // Puts the line of waiter n. A free one has none.
+#[tactic(auto, using(text::proofs::Writes::nothing, text::proofs::Writes::then), unfolding(sheet_lines::specs::Lines::waiter_line))]
 pub(crate) fn put_waiter(buf: &mut [u8], at: usize, n: u64, waiter: Waiter) -> usize
     requires { at + 126 ≤ length buf.old }
     ensures wrote { Wrote buf.old buf.new at result (waiter_line n waiter) }
@@ -60,6 +65,7 @@ pub(crate) fn put_waiter(buf: &mut [u8], at: usize, n: u64, waiter: Waiter) -> u
 }
 
 // Puts the lines of the waiters that are not free, ascending.
+#[tactic(auto, using(text::proofs::Writes::nothing, crate::proofs::Rows::waiters_all, crate::proofs::Rows::waiters_more), unfolding(sheet_lines::specs::Lines::waiter_lines))]
 pub fn put_waiters(buf: &mut [u8], at: usize, slots: [WaiterSlot; 16]) -> usize
     requires { at + 2016 ≤ length buf.old }
     ensures wrote { Wrote buf.old buf.new at result (waiter_lines 0 slots) }

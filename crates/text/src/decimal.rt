@@ -2,14 +2,14 @@
 use crate::place::Place;
 
 // What a word of digits says.
-#[derive(Drop)]
+#[derive(Clone, Copy)]
 pub enum Number {
     Value(u64),
     Bad,
 }
 
 // A number and the place after it; 0 where reading has stopped.
-#[derive(Drop)]
+#[derive(Clone, Copy)]
 pub struct NumberFrom {
     pub value: u64,
     pub next: Place,

@@ -1,5 +1,7 @@
 // Numbers of decimal text: no leading zero, at most 2^64 - 1.
 // Knows nothing of what a number stands for.
+#![tactic(auto)]
+
 ghost use Rattle.std.specs.Prelude.{◌≡◌};
 ghost use Rattle.text.specs.Decimals.{digit, more, number};
 ghost use Rattle.text.specs.Rests.{read_number};
@@ -11,6 +13,7 @@ use text::decimal::{Number, NumberFrom};
 use text::place::Place;
 use text_place::past;
 
+#[tactic(auto, unfolding(text::specs::Decimals::digit))]
 pub(crate) fn first_digit(b: u8) -> Number
     ensures { result ≡ digit b }
 {
@@ -24,6 +27,7 @@ pub(crate) fn first_digit(b: u8) -> Number
 }
 
 // The number with a digit after it. The tests come before the sum, which is then below 2^64.
+#[tactic(auto, using(text::proofs::DecimalRead::more_over, text::proofs::DecimalRead::more_value), unfolding(text::specs::Decimals::more))]
 pub(crate) fn one_more(n: u64, b: u8) -> Number
     ensures { result ≡ more (Number.Value n) b }
 {
@@ -46,6 +50,7 @@ pub(crate) fn one_more(n: u64, b: u8) -> Number
     Number::Value(n * 10 + d)
 }
 
+#[tactic(auto, using(text::proofs::DecimalRead::read_none, text::proofs::DecimalRead::read_start, text::proofs::DecimalRead::read_bad, text::proofs::DecimalRead::more_bad, text::proofs::Digits::on_more, text::proofs::Digits::on_bad, text::proofs::Digits::on_done))]
 pub(crate) fn read_decimal(word: &[u8]) -> Number
     ensures { result ≡ number word.now }
 {
@@ -68,6 +73,7 @@ pub(crate) fn read_decimal(word: &[u8]) -> Number
 }
 
 // The number of the word at a place, and the place after the word.
+#[tactic(auto, using(text::proofs::Places::number_got_lem, text::proofs::Places::number_bad))]
 pub fn take_decimal(line: &[u8], from: Place) -> NumberFrom
     ensures { Reads line.now result.value result.next (read_number (here line.now from)) }
 {

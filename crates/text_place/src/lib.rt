@@ -1,5 +1,7 @@
 // Reading on from a place of a line: over a byte, over a word, to the line's end.
 // Knows nothing of numbers, hashes or keywords.
+#![tactic(auto)]
+
 ghost use Rattle.std.specs.Prelude.{[], ◌∷◌, ◌≡◌};
 ghost use Rattle.text.specs.Rests.{after, past as Rests·past, at_end};
 ghost use Rattle.text.specs.Places.{here};
@@ -7,6 +9,7 @@ ghost use Rattle.text.specs.Places.{here};
 use text::place::Place;
 
 // The place after one byte, where that byte stands: what parts values is a space or a bracket.
+#[tactic(auto, using(text::proofs::Places::byte_stopped, text::proofs::Places::byte_past_end, text::proofs::Places::byte_differs, text::proofs::Places::byte_stands))]
 pub fn past_byte(line: &[u8], from: Place, byte: u8) -> Place
     ensures { here line.now result ≡ after (byte ∷ []) (here line.now from) }
 {
@@ -23,6 +26,7 @@ pub fn past_byte(line: &[u8], from: Place, byte: u8) -> Place
 }
 
 // The place that many bytes on: after a word, by its length, so that the word is looked for once.
+#[tactic(auto, using(text::proofs::Places::past_stopped, text::proofs::Places::past_none, text::proofs::Places::past_end, text::proofs::Places::past_short, text::proofs::Places::past_on))]
 pub fn past(line: &[u8], from: Place, count: usize) -> Place
     ensures { here line.now result ≡ Rests·past count (here line.now from) }
 {
@@ -42,6 +46,7 @@ pub fn past(line: &[u8], from: Place, count: usize) -> Place
 }
 
 // Whether all of the line is read.
+#[tactic(auto, using(text::proofs::Places::end_stopped, text::proofs::Places::end_here))]
 pub fn at_end(line: &[u8], from: Place) -> bool
     ensures { result ≡ at_end (here line.now from) }
 {

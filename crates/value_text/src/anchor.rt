@@ -9,6 +9,7 @@ use number_text::put_decimal;
 use text_put::put::{put, put_byte};
 
 // Puts an anchor's hash, or `none`.
+#[tactic(auto, unfolding(crate::specs::Texts::block_hash_text, head_anchor::specs::Values::block_hash_value, crate::specs::Values::value_text, crate::specs::Words::word_text))]
 pub(crate) fn put_block_hash(buf: &mut [u8], at: usize, page: Page, hash: BlockHash) -> usize
     requires { at + 64 ≤ length buf.old }
     ensures wrote { Wrote buf.old buf.new at result (block_hash_text page hash) }
@@ -21,6 +22,7 @@ pub(crate) fn put_block_hash(buf: &mut [u8], at: usize, page: Page, hash: BlockH
 }
 
 // Puts `(NUMBER HASH)` or `(NUMBER none)`.
+#[tactic(auto, using(text::proofs::Writes::then), unfolding(crate::specs::Texts::anchor_text, head_anchor::specs::Values::anchor_value, crate::specs::Texts::block_hash_text, crate::specs::Values::value_text, crate::specs::Words::word_text))]
 pub fn put_anchor(buf: &mut [u8], at: usize, page: Page, anchor: ReadAnchor) -> usize
     requires { at + 87 ≤ length buf.old }
     ensures wrote { Wrote buf.old buf.new at result (anchor_text page anchor) }

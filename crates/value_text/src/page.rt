@@ -6,13 +6,14 @@ ghost use Rattle.text.specs.Writes.{Wrote};
 use hash::Hash;
 use hash_text::{put_hash, put_sheet_hash};
 
-#[derive(Drop)]
+#[derive(Clone, Copy)]
 pub enum Page {
     Line,
     Sheet,
 }
 
 // Puts a hash as the page has it.
+#[tactic(auto, unfolding(crate::specs::Values::hash_text))]
 pub(crate) fn put_hash_on(buf: &mut [u8], at: usize, page: Page, hash: Hash) -> usize
     requires { at + 64 ≤ length buf.old }
     ensures wrote { Wrote buf.old buf.new at result (hash_text page hash) }

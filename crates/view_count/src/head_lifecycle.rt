@@ -9,6 +9,7 @@ use head_life::HeadLifecycle;
 use head_ready::HeadReadiness;
 
 // A view was answered, ready or cold: the counter rises behind the reference. The Rust's `record_view`.
+#[tactic(auto, unfolding(head_count::specs::Counters::record_view, head_count::specs::Counters::raise))]
 pub(crate) fn record_view(stats: &mut HeadStats, ready: bool)
     ensures { stats.new ≡ record_view ready stats.old }
 {
@@ -29,6 +30,7 @@ pub(crate) fn with_view(stats: HeadStats, ready: bool) -> HeadStats
 }
 
 // The lifecycle after a view of that readiness was answered.
+#[tactic(auto, unfolding(head_life::specs::State::view_counted))]
 pub fn count_view(life: HeadLifecycle, readiness: HeadReadiness) -> HeadLifecycle
     ensures { result ≡ view_counted life readiness }
 {
