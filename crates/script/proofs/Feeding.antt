@@ -48,15 +48,15 @@ module _ (d : Driver) (pending₀ : List ℕ) (held : ℕ) (input out₀ : List 
   first = record { driver = d; held = held; taken = 0; written = 0 }
 
   module _ (t : Bool) (e : t ≡ usable (length pending₀) held (length out₀)) where
-    pub not_usable : not t ≡ true → TakesSome (reading d pending₀ held) (reading d pending₀ held) input out₀ out₀ first
-    not_usable is = record { within = omega arith; feeds = feeds_none (reading d pending₀ held) out₀; fits = omega arith; stops = inr (inr (sym e ∙ not-true t is, refl)) }
+    pub not_usable : t ≡ false → TakesSome (reading d pending₀ held) (reading d pending₀ held) input out₀ out₀ first
+    not_usable is = record { within = omega arith; feeds = feeds_none (reading d pending₀ held) out₀; fits = omega arith; stops = inr (inr (sym e ∙ is, refl)) }
 
-    pub going_first : not t ≡ false → Going pending₀ out₀ first
+    pub going_first : t ≡ true → Going pending₀ out₀ first
     going_first is = record {
       kept = refl;
       room = refl;
-      enough = (lent_of (length pending₀) held (length out₀) t e (not-false t is)).room;
-      few = (lent_of (length pending₀) held (length out₀) t e (not-false t is)).few;
+      enough = (lent_of (length pending₀) held (length out₀) t e is).room;
+      few = (lent_of (length pending₀) held (length out₀) t e is).few;
       within = omega arith;
       fits = omega arith;
       feeds = feeds_none (reading d pending₀ held) out₀;
@@ -112,16 +112,16 @@ module _ (d : Driver) (pending₀ : List ℕ) (held : ℕ) (input out₀ : List 
     line_held = held_within fed pending pending' input out k (line_room pending out fed g) g.few g.within (answer_room pending out fed g space) keeps same
 
     -- the input ends first, and all of it is taken
-    pub cut_off : not k.ended ≡ true → TakesSome (reading d pending₀ held) (reading fed.driver pending' k.held) input out₀ out now
+    pub cut_off : k.ended ≡ false → TakesSome (reading d pending₀ held) (reading fed.driver pending' k.held) input out₀ out now
     cut_off e =
-        let f = line_goes_on fed pending pending' input out k (line_room pending out fed g) g.few g.within (answer_room pending out fed g space) keeps (not-true k.ended e) in
-        let l = place_last fed pending pending' input out k (line_room pending out fed g) g.few g.within (answer_room pending out fed g space) keeps (not-true k.ended e) in
+        let f = line_goes_on fed pending pending' input out k (line_room pending out fed g) g.few g.within (answer_room pending out fed g space) keeps e in
+        let l = place_last fed pending pending' input out k (line_room pending out fed g) g.few g.within (answer_room pending out fed g space) keeps e in
         all_taken_lem pending' out now (going_on pending out fed g more pending' out now same refl f) l
 
     -- the line is answered
-    module _ (e : not k.ended ≡ false) (out' : List ℕ) (r : Fed) (answers : AnswersHeld now pending' out out' r) where
+    module _ (e : k.ended ≡ true) (out' : List ℕ) (r : Fed) (answers : AnswersHeld now pending' out out' r) where
       line : FeedsLine fed pending pending' input out out' r
-      line = line_ends_lem fed pending pending' input out k (line_room pending out fed g) g.few g.within (answer_room pending out fed g space) keeps (not-false k.ended e) out' r answers
+      line = line_ends_lem fed pending pending' input out k (line_room pending out fed g) g.few g.within (answer_room pending out fed g space) keeps e out' r answers
 
       pub line_less : length input - r.taken < length input - fed.taken
       line_less = less_left pending out fed g more pending' out' r line
