@@ -56,7 +56,7 @@ pub(crate) fn put_hex(buf: &mut [u8], at: usize, n: u64) -> usize
 }
 
 // Puts a hash as a line has it.
-#[tactic(auto, using(text::proofs::Writes::then), unfolding(crate::specs::LineHashes::line_hash_text, crate::specs::Hex::hex_text))]
+#[tactic(auto, unfolding(crate::specs::LineHashes::line_hash_text, crate::specs::Hex::hex_text))]
 pub fn put_hash(buf: &mut [u8], at: usize, h: Hash) -> usize
     requires { at + 64 ≤ length buf.old }
     ensures wrote { Wrote buf.old buf.new at result (line_hash_text h) }

@@ -29,7 +29,6 @@ pub fn put_decimal(buf: &mut [u8], at: usize, n: u64) -> usize
 }
 
 // Puts a number behind its name, which begins with a bracket and ends with a space, and closes the bracket.
-#[tactic(auto, using(text::proofs::Writes::then))]
 pub fn put_named(buf: &mut [u8], at: usize, name: &[u8], n: u64) -> usize
     requires { at + (length name.now + 21) ≤ length buf.old }
     ensures wrote { Wrote buf.old buf.new at result (name.now ++ (decimal n ++ ascii ")")) }

@@ -44,7 +44,7 @@ pub(crate) fn put_text(buf: &mut [u8], at: usize, answer: Answer) -> usize
 }
 
 // Puts an answer's line at the front of the buffer.
-#[tactic(auto, using(text::proofs::Writes::then), unfolding(crate::specs::Answers::answer_line))]
+#[tactic(auto, unfolding(crate::specs::Answers::answer_line))]
 pub(crate) fn put_answer(buf: &mut [u8], answer: Answer) -> usize
     requires { 512 ≤ length buf.old }
     ensures wrote { Wrote buf.old buf.new 0 result (answer_line answer) }

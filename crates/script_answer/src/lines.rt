@@ -46,7 +46,7 @@ pub(crate) fn put_view_source(buf: &mut [u8], at: usize, source: Source) -> usiz
 }
 
 // The one place where what follows a view's handle is written.
-#[tactic(auto, using(text::proofs::Writes::then, text::proofs::Writes::wrote_as), unfolding(script_value::specs::Lines::answer_text, script_value::specs::Lines::said_text, head_driver::specs::Answers::said, script_value::specs::Lines::refusal_on, value_text::specs::Values::values_on, value_text::specs::Values::value_text, value_text::specs::Words::word_text, script_outcome::specs::Texts::source_text, script_outcome::specs::Texts::readiness_text))]
+#[tactic(auto, unfolding(script_value::specs::Lines::answer_text, script_value::specs::Lines::said_text, head_driver::specs::Answers::said, script_value::specs::Lines::refusal_on, value_text::specs::Values::values_on, value_text::specs::Values::value_text, value_text::specs::Words::word_text, script_outcome::specs::Texts::source_text, script_outcome::specs::Texts::readiness_text))]
 pub(crate) fn put_view(buf: &mut [u8], at: usize, view: HeadView) -> usize
     requires { at + 92 ≤ length buf.old }
     ensures wrote { Wrote buf.old buf.new at result (answer_text (Answer.View view)) }

@@ -23,7 +23,7 @@ pub(crate) fn put_refused(buf: &mut [u8], at: usize, n: u64) -> usize
     put_named(buf, at, b"(refused ", n)
 }
 
-#[tactic(auto, using(text::proofs::Writes::then), unfolding(script_value::specs::Lines::answer_text, script_value::specs::Lines::said_text, head_driver::specs::Answers::said, script_value::specs::Lines::refusal_on, value_text::specs::Values::values_on, value_text::specs::Values::value_text, value_text::specs::Words::word_text, head_driver::specs::Answers::outcome_said, script_outcome::specs::Texts::outcome_text, text::specs::Decimals::decimal, text::specs::Decimals::decimal_on))]
+#[tactic(auto, unfolding(script_value::specs::Lines::answer_text, script_value::specs::Lines::said_text, head_driver::specs::Answers::said, script_value::specs::Lines::refusal_on, value_text::specs::Values::values_on, value_text::specs::Values::value_text, value_text::specs::Words::word_text, head_driver::specs::Answers::outcome_said, script_outcome::specs::Texts::outcome_text, text::specs::Decimals::decimal, text::specs::Decimals::decimal_on))]
 pub(crate) fn put_settled(buf: &mut [u8], at: usize, outcome: CarryOutcome) -> usize
     requires { at + 62 ≤ length buf.old }
     ensures wrote { Wrote buf.old buf.new at result (answer_text (Answer.Outcome (HeadOutcome.Settled outcome))) }
@@ -34,7 +34,7 @@ pub(crate) fn put_settled(buf: &mut [u8], at: usize, outcome: CarryOutcome) -> u
     put_byte(buf, j, b')')
 }
 
-#[tactic(auto, using(text::proofs::Writes::then), unfolding(script_value::specs::Lines::answer_text, script_value::specs::Lines::said_text, head_driver::specs::Answers::said, script_value::specs::Lines::refusal_on, value_text::specs::Values::values_on, value_text::specs::Values::value_text, value_text::specs::Words::word_text, head_driver::specs::Answers::outcome_said, value_text::specs::Texts::anchor_text, text::specs::Decimals::decimal, text::specs::Decimals::decimal_on))]
+#[tactic(auto, unfolding(script_value::specs::Lines::answer_text, script_value::specs::Lines::said_text, head_driver::specs::Answers::said, script_value::specs::Lines::refusal_on, value_text::specs::Values::values_on, value_text::specs::Values::value_text, value_text::specs::Words::word_text, head_driver::specs::Answers::outcome_said, value_text::specs::Texts::anchor_text, text::specs::Decimals::decimal, text::specs::Decimals::decimal_on))]
 pub(crate) fn put_superseded(buf: &mut [u8], at: usize, anchor: ReadAnchor) -> usize
     requires { at + 100 ≤ length buf.old }
     ensures wrote { Wrote buf.old buf.new at result (answer_text (Answer.Outcome (HeadOutcome.Superseded anchor))) }
@@ -45,7 +45,7 @@ pub(crate) fn put_superseded(buf: &mut [u8], at: usize, anchor: ReadAnchor) -> u
     put_byte(buf, j, b')')
 }
 
-#[tactic(auto, using(text::proofs::Writes::then), unfolding(script_value::specs::Lines::answer_text, script_value::specs::Lines::said_text, head_driver::specs::Answers::said, script_value::specs::Lines::refusal_on, value_text::specs::Values::values_on, value_text::specs::Values::value_text, value_text::specs::Words::word_text, head_driver::specs::Answers::outcome_said, value_text::specs::Texts::anchor_text, text::specs::Decimals::decimal, text::specs::Decimals::decimal_on))]
+#[tactic(auto, unfolding(script_value::specs::Lines::answer_text, script_value::specs::Lines::said_text, head_driver::specs::Answers::said, script_value::specs::Lines::refusal_on, value_text::specs::Values::values_on, value_text::specs::Values::value_text, value_text::specs::Words::word_text, head_driver::specs::Answers::outcome_said, value_text::specs::Texts::anchor_text, text::specs::Decimals::decimal, text::specs::Decimals::decimal_on))]
 pub(crate) fn put_foreign(buf: &mut [u8], at: usize, list: ReadAnchor, held: ReadAnchor) -> usize
     requires { at + 188 ≤ length buf.old }
     ensures wrote { Wrote buf.old buf.new at result (answer_text (Answer.Outcome (HeadOutcome.Foreign list held))) }

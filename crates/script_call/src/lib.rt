@@ -3,7 +3,7 @@
 #![tactic(auto)]
 
 ghost use Rattle.std.specs.Prelude.{◌≡◌};
-ghost use Rattle.script_call.specs.Calls.{ends as Calls·ends, closed as Calls·closed, spaced_ticket, spaced_list, deliver_call, claim_call, release_call, apply_call, snapshot_call, wait_call, resume_call, completion_call, link_call, report_call, stats_call, heads_call, sheet_call, call_named, later_named, call};
+ghost use Rattle.script_call.specs.Calls.{ends, closed, spaced_ticket, spaced_list, deliver_call, claim_call, release_call, apply_call, snapshot_call, wait_call, resume_call, completion_call, link_call, report_call, stats_call, heads_call, sheet_call, call_named, later_named, call};
 ghost use Rattle.script_call.specs.Dispatch.{view_named, bare_named};
 ghost use Rattle.text.specs.Places.{here, Reads};
 
@@ -48,7 +48,7 @@ pub struct ListFrom {
 // Whether one bracket is all that is left of the line.
 #[tactic(auto, using(crate::proofs::Places::ends_is))]
 pub(crate) fn ends(line: &[u8], from: Place) -> bool
-    ensures { result ≡ Calls·ends (here line.now from) }
+    ensures { result ≡ ends (here line.now from) }
 {
     at_end(line, past_byte(line, from, b')'))
 }
@@ -56,7 +56,7 @@ pub(crate) fn ends(line: &[u8], from: Place) -> bool
 // The call, where the line ends with it.
 #[tactic(auto, unfolding(crate::specs::Calls::closed))]
 pub(crate) fn closed(line: &[u8], from: Place, call: Call) -> LineCall
-    ensures { result ≡ Calls·closed (here line.now from) call }
+    ensures { result ≡ closed (here line.now from) call }
 {
     if ends(line, from) {
         return LineCall::Make(call);

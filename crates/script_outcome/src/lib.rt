@@ -29,7 +29,7 @@ pub(crate) fn put_skip(buf: &mut [u8], at: usize, skip: BalSkip) -> usize
 }
 
 // Puts `(cold LINK SKIP)`.
-#[tactic(auto, using(text::proofs::Writes::then), unfolding(crate::specs::Texts::cold_text, value_text::specs::Texts::fault_text, value_text::specs::Texts::skip_text, value_text::specs::Values::value_text, value_text::specs::Words::word_text))]
+#[tactic(auto, unfolding(crate::specs::Texts::cold_text, value_text::specs::Texts::fault_text, value_text::specs::Texts::skip_text, value_text::specs::Values::value_text, value_text::specs::Words::word_text))]
 pub(crate) fn put_cold(buf: &mut [u8], at: usize, link: Link, skip: BalSkip) -> usize
     requires { at + 52 ≤ length buf.old }
     ensures wrote { Wrote buf.old buf.new at result (cold_text link skip) }

@@ -43,7 +43,7 @@ pub(crate) fn put_link_word(buf: &mut [u8], at: usize, link: Link) -> usize
     }
 }
 
-#[tactic(auto, using(text::proofs::Writes::then), unfolding(script_value::specs::Lines::answer_text, script_value::specs::Lines::said_text, head_driver::specs::Answers::said, script_value::specs::Lines::refusal_on, value_text::specs::Values::values_on, value_text::specs::Words::word_text, value_text::specs::Texts::link_text))]
+#[tactic(auto, unfolding(script_value::specs::Lines::answer_text, script_value::specs::Lines::said_text, head_driver::specs::Answers::said, script_value::specs::Lines::refusal_on, value_text::specs::Values::values_on, value_text::specs::Words::word_text, value_text::specs::Texts::link_text))]
 pub(crate) fn put_link(buf: &mut [u8], at: usize, link: Link) -> usize
     requires { at + 22 ≤ length buf.old }
     ensures wrote { Wrote buf.old buf.new at result (answer_text (Answer.Link link)) }
@@ -54,7 +54,7 @@ pub(crate) fn put_link(buf: &mut [u8], at: usize, link: Link) -> usize
     put_byte(buf, j, b')')
 }
 
-#[tactic(auto, using(text::proofs::Writes::then), unfolding(script_value::specs::Lines::answer_text, script_value::specs::Lines::said_text, head_driver::specs::Answers::said, script_value::specs::Lines::refusal_on, value_text::specs::Values::values_on, value_text::specs::Values::value_text, value_text::specs::Words::word_text, script_outcome::specs::Texts::report_text))]
+#[tactic(auto, unfolding(script_value::specs::Lines::answer_text, script_value::specs::Lines::said_text, head_driver::specs::Answers::said, script_value::specs::Lines::refusal_on, value_text::specs::Values::values_on, value_text::specs::Values::value_text, value_text::specs::Words::word_text, script_outcome::specs::Texts::report_text))]
 pub(crate) fn put_report_line(buf: &mut [u8], at: usize, report: LastReport) -> usize
     requires { at + 84 ≤ length buf.old }
     ensures wrote { Wrote buf.old buf.new at result (answer_text (Answer.Report report)) }
@@ -76,7 +76,7 @@ pub(crate) fn put_stats_line(buf: &mut [u8], at: usize, stats: HeadStats) -> usi
     put_byte(buf, j, b')')
 }
 
-#[tactic(auto, using(text::proofs::Writes::then), unfolding(script_value::specs::Lines::answer_text, script_value::specs::Lines::said_text, head_driver::specs::Answers::said, script_value::specs::Lines::refusal_on, value_text::specs::Values::values_on, value_text::specs::Values::value_text, value_text::specs::Words::word_text, value_text::specs::Texts::slot_text))]
+#[tactic(auto, unfolding(script_value::specs::Lines::answer_text, script_value::specs::Lines::said_text, head_driver::specs::Answers::said, script_value::specs::Lines::refusal_on, value_text::specs::Values::values_on, value_text::specs::Values::value_text, value_text::specs::Words::word_text, value_text::specs::Texts::slot_text))]
 pub(crate) fn put_heads(
     buf: &mut [u8],
     at: usize,

@@ -12,7 +12,7 @@ use script_outcome::put_outcome;
 use text_put::put::{put, put_byte};
 
 // Puts `(OUTCOME REPORT)`, or `none`.
-#[tactic(auto, using(text::proofs::Writes::then), unfolding(script_outcome::specs::Texts::report_text, head_driver::specs::Answers::report_value, script_outcome::specs::Texts::outcome_text, value_text::specs::Values::value_text, value_text::specs::Words::word_text))]
+#[tactic(auto, unfolding(script_outcome::specs::Texts::report_text, head_driver::specs::Answers::report_value, script_outcome::specs::Texts::outcome_text, value_text::specs::Values::value_text, value_text::specs::Words::word_text))]
 pub fn put_report(buf: &mut [u8], at: usize, report: LastReport) -> usize
     requires { at + 75 ≤ length buf.old }
     ensures wrote { Wrote buf.old buf.new at result (report_text report) }

@@ -18,7 +18,7 @@ pub fn put_spaced(buf: &mut [u8], at: usize, n: u64) -> usize
     put_decimal(buf, i, n)
 }
 
-#[tactic(auto, using(text::proofs::Writes::then), unfolding(crate::specs::Texts::four_text))]
+#[tactic(auto, unfolding(crate::specs::Texts::four_text))]
 pub(crate) fn put_four(buf: &mut [u8], at: usize, a: u64, b: u64, c: u64, d: u64) -> usize
     requires { at + 84 ≤ length buf.old }
     ensures wrote { Wrote buf.old buf.new at result (four_text a b c d) }

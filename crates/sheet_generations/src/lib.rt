@@ -15,7 +15,7 @@ use value_text::anchor::put_anchor;
 use value_text::page::Page;
 
 // Puts `A H READINESS`: the one place where what follows a generation's handle is written.
-#[tactic(auto, using(text::proofs::Writes::then), unfolding(sheet_lines::specs::Lines::generation_text))]
+#[tactic(auto, unfolding(sheet_lines::specs::Lines::generation_text))]
 pub(crate) fn put_held(buf: &mut [u8], at: usize, held: Generation) -> usize
     requires { at + 161 ≤ length buf.old }
     ensures wrote { Wrote buf.old buf.new at result (generation_text (GenerationSlot.Held held)) }
@@ -42,7 +42,6 @@ pub(crate) fn put_generation(buf: &mut [u8], at: usize, slot: GenerationSlot) ->
 }
 
 // Puts a line that begins with a bracket and the generation's name.
-#[tactic(auto, using(text::proofs::Writes::then))]
 pub(crate) fn put_line(buf: &mut [u8], at: usize, name: &[u8], slot: GenerationSlot) -> usize
     requires { at + (length name.now + 163) ≤ length buf.old }
     ensures wrote { Wrote buf.old buf.new at result (name.now ++ (generation_text slot ++ ascii ")\n")) }
@@ -54,7 +53,7 @@ pub(crate) fn put_line(buf: &mut [u8], at: usize, name: &[u8], slot: GenerationS
 }
 
 // Puts both lines, the installed generation's first.
-#[tactic(auto, using(text::proofs::Writes::then), unfolding(sheet_lines::specs::Lines::installed_line, sheet_lines::specs::Lines::previous_line))]
+#[tactic(auto, unfolding(sheet_lines::specs::Lines::installed_line, sheet_lines::specs::Lines::previous_line))]
 pub fn put_generations(
     buf: &mut [u8],
     at: usize,

@@ -40,7 +40,7 @@ pub(crate) fn put_unclaimed_end(buf: &mut [u8], at: usize, end: HeadCompletion) 
 }
 
 // Puts `A P`.
-#[tactic(auto, using(text::proofs::Writes::then), unfolding(crate::specs::Lines::delivery_text, value_text::specs::Values::hash_text))]
+#[tactic(auto, unfolding(crate::specs::Lines::delivery_text, value_text::specs::Values::hash_text))]
 pub(crate) fn put_delivery(buf: &mut [u8], at: usize, held: HeadDelivery) -> usize
     requires { at + 152 ≤ length buf.old }
     ensures wrote { Wrote buf.old buf.new at result (delivery_text held) }
@@ -52,7 +52,7 @@ pub(crate) fn put_delivery(buf: &mut [u8], at: usize, held: HeadDelivery) -> usi
 }
 
 // Puts `A P H`.
-#[tactic(auto, using(text::proofs::Writes::then), unfolding(crate::specs::Lines::unsettled_text))]
+#[tactic(auto, unfolding(crate::specs::Lines::unsettled_text))]
 pub(crate) fn put_unsettled(buf: &mut [u8], at: usize, head: UnsettledHead) -> usize
     requires { at + 173 ≤ length buf.old }
     ensures wrote { Wrote buf.old buf.new at result (unsettled_text head) }
@@ -62,7 +62,7 @@ pub(crate) fn put_unsettled(buf: &mut [u8], at: usize, head: UnsettledHead) -> u
     put_spaced(buf, i, head.provisional)
 }
 
-#[tactic(auto, using(text::proofs::Writes::then), unfolding(crate::specs::Lines::current_line))]
+#[tactic(auto, unfolding(crate::specs::Lines::current_line))]
 pub(crate) fn put_unclaimed(buf: &mut [u8], at: usize, head: UnsettledHead) -> usize
     requires { at + 204 ≤ length buf.old }
     ensures wrote { Wrote buf.old buf.new at result (current_line (CurrentHead.Unclaimed head)) }
@@ -75,7 +75,7 @@ pub(crate) fn put_unclaimed(buf: &mut [u8], at: usize, head: UnsettledHead) -> u
     put_unclaimed_end(buf, j, end)
 }
 
-#[tactic(auto, using(text::proofs::Writes::then), unfolding(crate::specs::Lines::current_line))]
+#[tactic(auto, unfolding(crate::specs::Lines::current_line))]
 pub(crate) fn put_preparing(buf: &mut [u8], at: usize, head: UnsettledHead) -> usize
     requires { at + 194 ≤ length buf.old }
     ensures wrote { Wrote buf.old buf.new at result (current_line (CurrentHead.Preparing head)) }
@@ -87,7 +87,6 @@ pub(crate) fn put_preparing(buf: &mut [u8], at: usize, head: UnsettledHead) -> u
 }
 
 // Puts a settled head's report, and the end of its line.
-#[tactic(auto, using(text::proofs::Writes::then))]
 pub(crate) fn put_told(buf: &mut [u8], at: usize, report: LastReport) -> usize
     requires { at + 78 ≤ length buf.old }
     ensures wrote { Wrote buf.old buf.new at result (ascii " " ++ (report_text report ++ ascii ")\n")) }
@@ -98,7 +97,7 @@ pub(crate) fn put_told(buf: &mut [u8], at: usize, report: LastReport) -> usize
     put(buf, j, b")\n")
 }
 
-#[tactic(auto, using(text::proofs::Writes::then), unfolding(crate::specs::Lines::current_line))]
+#[tactic(auto, unfolding(crate::specs::Lines::current_line))]
 pub(crate) fn put_settled(buf: &mut [u8], at: usize, head: SettledHead) -> usize
     requires { at + 247 ≤ length buf.old }
     ensures wrote { Wrote buf.old buf.new at result (current_line (CurrentHead.Settled head)) }
@@ -125,7 +124,6 @@ pub(crate) fn put_current(buf: &mut [u8], at: usize, current: CurrentHead) -> us
 }
 
 // Puts the lines from the counters' to the superseded anchor's.
-#[tactic(auto, using(text::proofs::Writes::then))]
 pub fn put_count_to_superseded(
     buf: &mut [u8],
     at: usize,

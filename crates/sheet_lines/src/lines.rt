@@ -11,7 +11,7 @@ use text_put::put::put;
 use value_text::page::Page;
 
 // Puts the eight counters, then the epoch.
-#[tactic(auto, using(text::proofs::Writes::then), unfolding(crate::specs::Lines::count_line))]
+#[tactic(auto, unfolding(crate::specs::Lines::count_line))]
 pub(crate) fn put_count(buf: &mut [u8], at: usize, stats: HeadStats, epoch: Epoch) -> usize
     requires { at + 197 ≤ length buf.old }
     ensures wrote { Wrote buf.old buf.new at result (count_line stats epoch) }
@@ -23,7 +23,7 @@ pub(crate) fn put_count(buf: &mut [u8], at: usize, stats: HeadStats, epoch: Epoc
     put(buf, k, b")\n")
 }
 
-#[tactic(auto, using(text::proofs::Writes::then), unfolding(crate::specs::Lines::superseded_line))]
+#[tactic(auto, unfolding(crate::specs::Lines::superseded_line))]
 pub(crate) fn put_superseded(buf: &mut [u8], at: usize, superseded: AnchorSlot) -> usize
     requires { at + 101 ≤ length buf.old }
     ensures wrote { Wrote buf.old buf.new at result (superseded_line superseded) }

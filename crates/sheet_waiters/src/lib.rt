@@ -29,7 +29,6 @@ pub(crate) fn put_number(buf: &mut [u8], at: usize, n: u64) -> usize
 }
 
 // Puts the end of a preparation, a word between spaces, and the anchor that was prepared.
-#[tactic(auto, using(text::proofs::Writes::then))]
 pub(crate) fn put_woken(buf: &mut [u8], at: usize, end: &[u8], anchor: ReadAnchor) -> usize
     requires { at + (length end.now + 89) ≤ length buf.old }
     ensures wrote { Wrote buf.old buf.new at result (end.now ++ (anchor_text Page.Sheet anchor ++ ascii ")\n")) }

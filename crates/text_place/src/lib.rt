@@ -3,7 +3,7 @@
 #![tactic(auto)]
 
 ghost use Rattle.std.specs.Prelude.{[], ◌∷◌, ◌≡◌};
-ghost use Rattle.text.specs.Rests.{after, past as Rests·past, at_end};
+ghost use Rattle.text.specs.Rests.{after, past, at_end};
 ghost use Rattle.text.specs.Places.{here};
 
 use text::place::Place;
@@ -28,7 +28,7 @@ pub fn past_byte(line: &[u8], from: Place, byte: u8) -> Place
 // The place that many bytes on: after a word, by its length, so that the word is looked for once.
 #[tactic(auto, using(text::proofs::Places::past_stopped, text::proofs::Places::past_none, text::proofs::Places::past_end, text::proofs::Places::past_short, text::proofs::Places::past_on))]
 pub fn past(line: &[u8], from: Place, count: usize) -> Place
-    ensures { here line.now result ≡ Rests·past count (here line.now from) }
+    ensures { here line.now result ≡ past count (here line.now from) }
 {
     let Place::At(at) = from else {
         return Place::Stopped;

@@ -22,7 +22,7 @@ pub(crate) fn put_block_hash(buf: &mut [u8], at: usize, page: Page, hash: BlockH
 }
 
 // Puts `(NUMBER HASH)` or `(NUMBER none)`.
-#[tactic(auto, using(text::proofs::Writes::then), unfolding(crate::specs::Texts::anchor_text, head_anchor::specs::Values::anchor_value, crate::specs::Texts::block_hash_text, crate::specs::Values::value_text, crate::specs::Words::word_text))]
+#[tactic(auto, unfolding(crate::specs::Texts::anchor_text, head_anchor::specs::Values::anchor_value, crate::specs::Texts::block_hash_text, crate::specs::Values::value_text, crate::specs::Words::word_text))]
 pub fn put_anchor(buf: &mut [u8], at: usize, page: Page, anchor: ReadAnchor) -> usize
     requires { at + 87 ≤ length buf.old }
     ensures wrote { Wrote buf.old buf.new at result (anchor_text page anchor) }
