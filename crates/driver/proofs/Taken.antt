@@ -3,7 +3,6 @@ use Prim.Native.Nat.{ℕ}
 use mathlib.Core.List.{List}
 use mathlib.Core.Path.{◌≡◌, ap, ◌∙◌}
 use Rattle.head_driver.specs.Answers.{Replies}
-use Rattle.head_step.proofs.Asked.{asked}
 use Rattle.head_step.specs.Steps.{step}
 use Rattle.script_call.specs.Calls.{call}
 use Rattle.script_sheet.specs.Sheets.{sheet_text}

@@ -2,13 +2,12 @@
 use Prim.Native.Nat.{ℕ, ◌+◌, ◌-◌, ◌≤◌, ◌<◌}
 use native.Mathlib.Nat.{le_of_lt}
 use native.Mathlib.Omega.{arith}
-use mathlib.Core.Bool.{Bool, true, false, not}
+use mathlib.Core.Bool.{Bool, true, false}
 use mathlib.Core.List.{List, [], ◌++◌}
 use mathlib.Core.Logic.{◌⊎◌, inl, inr}
 use mathlib.Core.Path.{◌≡◌, refl, ap, sym, ◌∙◌}
 use lib.ListN.{length, take, take-append-drop}
 use lib.Seq.{slice, take-take}
-use borrow.Author.Tests.{not-true, not-false}
 use Rattle.text.proofs.Writes.{nothing, then}
 use Rattle.pending.specs.Kept.{Keeps}
 use Rattle.pending.specs.declared.Kept.{Kept}

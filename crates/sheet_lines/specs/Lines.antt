@@ -1,6 +1,5 @@
 -- Document 01, "The sheet": its lines, in its order. Every one ends with a line feed; an absent part is `none` in its brackets.
 use Rattle.std.specs.Prelude.{ℕ, suc, List, [], ◌∷◌, ◌++◌}
-use Rattle.head_attempt.specs.Attempts.{settled}
 use Rattle.script_outcome.specs.Texts.{readiness_text, report_text}
 use Rattle.script_value.specs.Texts.{spaced_text, stats_text}
 use Rattle.value_text.specs.Texts.{anchor_text, slot_text}

@@ -1,5 +1,5 @@
 -- All values are those of digits, so each part of sixteen is below 2^64.
-use Rattle.hash_read.proofs.Values.{part_below, all_digits}
+use Rattle.hash_read.proofs.Values.{part_below}
 use Rattle.hash_read.proofs.read_hash.Goals as goal
 
 pub number-w0-requires : goal.number-w0-requires

@@ -1,5 +1,5 @@
 -- The bytes that are still kept are put as one text.
-use Rattle.std.proofs.Common.{sym, arith}
+use Rattle.std.proofs.Common.{sym}
 use Rattle.std.proofs.Math.Seq.{length-take-le}
 use Rattle.pending.proofs.Keeping.{room_within, some_held}
 use Rattle.pending.proofs.hold.Goals as goal

@@ -14,14 +14,14 @@ returns-then-not-kept c = cut_off _ _ _ _ _ _ _ _ c.loop-fed.invariant c.loop-fe
 
 pub answer_held-fed-requires-clause-held_in_bounds : goal.answer_held-fed-requires-clause-held_in_bounds
 answer_held-fed-requires-clause-held_in_bounds c =
-  line_held _ _ _ _ _ _ _ _ c.loop-fed.invariant c.loop-fed-test.true c.if-out-fed-lt4096.false _ c.keep-kept.auto.buffer _ c.keep-kept.ensures
+    line_held _ _ _ _ _ _ _ _ c.loop-fed.invariant c.loop-fed-test.true c.if-out-fed-lt4096.false _ c.keep-kept.auto.buffer _ c.keep-kept.ensures
 
 pub loop-fed-smaller : goal.loop-fed-smaller
 loop-fed-smaller c =
-  line_less _ _ _ _ _ _ _ _ c.loop-fed.invariant c.loop-fed-test.true c.if-out-fed-lt4096.false _ c.keep-kept.auto.buffer _ c.keep-kept.ensures
-  (not-false _ c.if-not-kept.false) _ _ c.answer_held-fed.ensures
+    line_less _ _ _ _ _ _ _ _ c.loop-fed.invariant c.loop-fed-test.true c.if-out-fed-lt4096.false _ c.keep-kept.auto.buffer _ c.keep-kept.ensures
+    (not-false _ c.if-not-kept.false) _ _ c.answer_held-fed.ensures
 
 pub loop-fed-preserved : goal.loop-fed-preserved
 loop-fed-preserved c =
-  line_going _ _ _ _ _ _ _ _ c.loop-fed.invariant c.loop-fed-test.true c.if-out-fed-lt4096.false _ c.keep-kept.auto.buffer _ c.keep-kept.ensures
-  (not-false _ c.if-not-kept.false) _ _ c.answer_held-fed.ensures c.answer_held-fed.auto.out
+    line_going _ _ _ _ _ _ _ _ c.loop-fed.invariant c.loop-fed-test.true c.if-out-fed-lt4096.false _ c.keep-kept.auto.buffer _ c.keep-kept.ensures
+    (not-false _ c.if-not-kept.false) _ _ c.answer_held-fed.ensures c.answer_held-fed.auto.out

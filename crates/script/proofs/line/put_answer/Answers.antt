@@ -20,5 +20,5 @@ returns-in-Said c = puts_line _ _ _ _ _ _ refl c.in-Said.is c.requires c.put_lin
 
 pub returns-in_default : goal.returns-in_default
 returns-in_default c =
-  puts_line _ _ _ _ _ _ (line_counted _ c.in_default.not-Said c.in_default.not-Sheet) refl c.requires c.put_line-in_default.ensures
-  c.bytes_written-in_default.ensures
+    puts_line _ _ _ _ _ _ (line_counted _ c.in_default.not-Said c.in_default.not-Sheet) refl c.requires c.put_line-in_default.ensures
+    c.bytes_written-in_default.ensures

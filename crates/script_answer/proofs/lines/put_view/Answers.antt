@@ -11,5 +11,5 @@ use Rattle.script_answer.proofs.lines.put_view.Goals as goal
 pub returns-clause-wrote : goal.returns-clause-wrote
 unfolding answer_text said_text said refusal_on values_on value_text word_text source_text readiness_text
 returns-clause-wrote c = wrote_as
-  (then c.put_view_source-i.ensures.wrote (then c.put_decimal-j.ensures.wrote (then c.put_byte-k.ensures.wrote (then c.put_readiness-l.ensures.wrote c.put_byte.ensures.wrote))))
-  (simp append_assoc)
+    (then c.put_view_source-i.ensures.wrote (then c.put_decimal-j.ensures.wrote (then c.put_byte-k.ensures.wrote (then c.put_readiness-l.ensures.wrote c.put_byte.ensures.wrote))))
+    (simp append_assoc)

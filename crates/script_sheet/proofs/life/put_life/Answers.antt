@@ -5,5 +5,5 @@ use Rattle.script_sheet.proofs.life.put_life.Goals as goal
 
 pub returns-clause-wrote : goal.returns-clause-wrote
 returns-clause-wrote c = wrote_as
-  (then (rw c.shown_superseded-superseded.ensures at c.put_count_to_superseded-i.ensures.wrote) c.put_generations.ensures.wrote)
-  (life_shown _)
+    (then (rw c.shown_superseded-superseded.ensures at c.put_count_to_superseded-i.ensures.wrote) c.put_generations.ensures.wrote)
+    (life_shown _)
