@@ -8,4 +8,4 @@ loop-at-init g c = going_first _ _ _ _
 
 pub loop-at-preserved : goal.loop-at-preserved
 loop-at-preserved g c =
-  going_on _ _ _ _ _ _ _ c.loop-at.invariant _ c.answer_some-next.result c.answer_some-next.ensures c.if-next-eq0.false (search rules)
+    going_on _ _ _ _ _ _ _ c.loop-at.invariant _ c.answer_some-next.result c.answer_some-next.ensures c.if-next-eq0.false (search rules)
