@@ -18,7 +18,7 @@ use Rattle.hash.specs.Ranges.{HashFits}
 use Rattle.text.specs.declared.decimal.Number.{Number}
 use Rattle.hash_text.specs.declared.Digit.{Digit}
 use Rattle.hash_text.specs.declared.HashWord.{HashWord}
-use Rattle.text.proofs.Words.{run_cons, run-both, in_word_above}
+use Rattle.text.proofs.Words.{run_cons, run_both, in_word_above}
 
 -- ---- one byte
 
@@ -146,9 +146,9 @@ length-hex_text h = simp (length-append, length-hex)
 pub run-hex_text : (h : Hash) → run (hex_text h) ≡ length (hex_text h)
 unfolding hex_text
 run-hex_text h =
-    run-both (hex h.w0) _ (run-hex h.w0)
-    (run-both (hex h.w1) _ (run-hex h.w1)
-    (run-both (hex h.w2) (hex h.w3) (run-hex h.w2) (run-hex h.w3)))
+    run_both (hex h.w0) _ (run-hex h.w0)
+    (run_both (hex h.w1) _ (run-hex h.w1)
+    (run_both (hex h.w2) (hex h.w3) (run-hex h.w2) (run-hex h.w3)))
 
 module _ (p q r s : List ℕ) (lp : length p ≡ 16) (lq : length q ≡ 16) (lr : length r ≡ 16) (ls : length s ≡ 16) where
   part_1 : take 16 (drop 16 (p ++ (q ++ (r ++ s)))) ≡ q

@@ -47,10 +47,10 @@ after_only (b ∷ k) r t e = byte_only b r (k ++ t) (after_only k (after_byte b 
 
 -- ---- words
 
-run-within : (s : List ℕ) → run s ≤ length s
+run_within : (s : List ℕ) → run s ≤ length s
 unfolding run
-run-within [] = omega arith
-run-within (b ∷ s) = go (in_word b) (run-within s)
+run_within [] = omega arith
+run_within (b ∷ s) = go (in_word b) (run_within s)
   where
     go : (x : Bool) → run s ≤ length s → if x (suc (run s)) 0 ≤ suc (length s)
     go true h = omega arith
@@ -63,7 +63,7 @@ past_only (at s) t e = go (leb (length (take (run s) s)) (length s)) e
   where
     go : (x : Bool) → if x (at (drop (length (take (run s) s)) s)) stopped ≡ at t → at s ≡ at (take (run s) s ++ t)
     go true f =
-        let n : length (take (run s) s) ≡ run s = length-take (run s) s ∙ omega (arith, run-within s) in
+        let n : length (take (run s) s) ≡ run s = length-take (run s) s ∙ omega (arith, run_within s) in
         let z : drop (run s) s ≡ t = cc (rw n at f) in
         ap at (sym (take-append-drop (run s) s) ∙ rw z)
     go false f = absurd (went_on t f)

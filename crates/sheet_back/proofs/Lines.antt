@@ -158,10 +158,10 @@ held_back g t f z =
 generation_back : (g : GenerationSlot) (t : List ℕ) → GenerationSlotFits g → run t ≡ 0 → read_generation (at (generation_text g ++ t)) ≡ got g (at t)
 unfolding read_generation generation_text word_text run in_word
 generation_back GenerationSlot.Nothing t f z = word_hit _ _ t z (ascii "none") refl
-generation_back (GenerationSlot.Held g) t f z = held-open g t ∙ held_back g t f z
+generation_back (GenerationSlot.Held g) t f z = held_open g t ∙ held_back g t f z
   where
-    held-open : (g : Generation) (t : List ℕ) → read_generation (at (generation_text (GenerationSlot.Held g) ++ t)) ≡ read_held (at (generation_text (GenerationSlot.Held g) ++ t))
-    held-open g t = rw (held_form g t, anchor_form Page.Sheet g.anchor) (open_miss _ _ _ _ _)
+    held_open : (g : Generation) (t : List ℕ) → read_generation (at (generation_text (GenerationSlot.Held g) ++ t)) ≡ read_held (at (generation_text (GenerationSlot.Held g) ++ t))
+    held_open g t = rw (held_form g t, anchor_form Page.Sheet g.anchor) (open_miss _ _ _ _ _)
 
 pub installed_back : (g : GenerationSlot) (t : List ℕ) → GenerationSlotFits g → read_installed (at (installed_line g ++ t)) ≡ got g (at t)
 unfolding read_installed installed_line then after after_byte run in_word

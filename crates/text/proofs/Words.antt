@@ -57,10 +57,10 @@ unfolding run
 run_append [] t e z = z
 run_append (b ∷ s) t e z = let h = run_tail b s e in rw (h.0, run_append s t h.1 z)
 
-pub run-both : (s t : List ℕ) → run s ≡ length s → run t ≡ length t → run (s ++ t) ≡ length (s ++ t)
+pub run_both : (s t : List ℕ) → run s ≡ length s → run t ≡ length t → run (s ++ t) ≡ length (s ++ t)
 unfolding run
-run-both [] t e f = f
-run-both (b ∷ s) t e f = let h = run_tail b s e in rw (h.0, run-both s t h.1 f)
+run_both [] t e f = f
+run_both (b ∷ s) t e f = let h = run_tail b s e in rw (h.0, run_both s t h.1 f)
 
 pub word_append : (s t : List ℕ) → run s ≡ length s → run t ≡ 0 → word (s ++ t) ≡ s
 unfolding word
