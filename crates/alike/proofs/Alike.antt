@@ -1,10 +1,13 @@
 -- Drivers that differ only in what the sheet does not show answer every call alike, and stay so.
+use Rattle.std.specs.Prelude.{Option, None, Some, Result, Ok, Err, cond}
+use Rattle.head_ready.specs.declared.Generation.{Generation}
+use Rattle.head_current.specs.declared.DeltaReport.{DeltaReport}
+use Rattle.head_ready.specs.declared.HeadOutcome.{HeadOutcome}
 use Prim.Native.Nat.{ℕ}
 use mathlib.Core.Bool.{Bool, true, false}
 use mathlib.Core.List.{List}
 use mathlib.Core.Path.{◌≡◌, refl, ap, ◌∙◌}
 use lib.Dec.{ltb}
-use Rattle.hash.specs.Logic.{if}
 use Rattle.head_anchor.specs.Anchors.{holds, same_anchor}
 use Rattle.head_anchor.specs.Lists.{as_prepared}
 use Rattle.head_apply.specs.Apply.{apply, apply_as, settle_as}
@@ -40,7 +43,6 @@ use Rattle.hash.specs.declared.Hash.{Hash}
 use Rattle.head_anchor.specs.declared.BalSkip.{BalSkip}
 use Rattle.head_anchor.specs.declared.CarryOutcome.{CarryOutcome}
 use Rattle.head_anchor.specs.declared.PreparedBal.{PreparedBal}
-use Rattle.head_anchor.specs.declared.AnchorSlot.{AnchorSlot}
 use Rattle.head_anchor.specs.declared.ReadAnchor.{ReadAnchor}
 use Rattle.head_count.specs.declared.Epoch.{Epoch}
 use Rattle.head_attempt.specs.declared.HeadCompletion.{HeadCompletion}
@@ -49,19 +51,14 @@ use Rattle.head_count.specs.declared.Seq.{Seq}
 use Rattle.head_attempt.specs.declared.Waiter.{Waiter}
 use Rattle.head_attempt.specs.declared.WaiterSlot.{WaiterSlot}
 use Rattle.head_current.specs.declared.CurrentHead.{CurrentHead}
-use Rattle.head_current.specs.declared.DeliverySlot.{DeliverySlot}
 use Rattle.head_current.specs.declared.HeadDelivery.{HeadDelivery}
 use Rattle.head_current.specs.declared.HeadTicket.{HeadTicket}
-use Rattle.head_current.specs.declared.LastReport.{LastReport}
 use Rattle.head_current.specs.declared.PrepareClaim.{PrepareClaim}
-use Rattle.head_deliver.specs.declared.head_lifecycle.Repeat.{Repeat}
 use Rattle.head_current.specs.declared.UnsettledHead.{UnsettledHead}
 use Rattle.head_driver.specs.declared.Answer.{Answer}
 use Rattle.head_driver.specs.declared.Driver.{Driver}
 use Rattle.head_driver.specs.declared.Reply.{Reply}
-use Rattle.head_ready.specs.declared.GenerationSlot.{GenerationSlot}
 use Rattle.head_plan.specs.declared.head_lifecycle.ApplyPlan.{ApplyPlan}
-use Rattle.head_claim.specs.declared.head_lifecycle.ClaimStart.{ClaimStart}
 use Rattle.head_ready.specs.declared.HeadView.{HeadView}
 use Rattle.head_ready.specs.declared.Source.{Source}
 use Rattle.head_call.specs.declared.Call.{Call}
@@ -72,7 +69,7 @@ use Rattle.alike.specs.Invariant.{Ordered, WhenSettled}
 abbrev unclaimed_with : HeadDelivery → ℕ → Epoch → HeadCompletion → CurrentHead
 unclaimed_with held h k t = CurrentHead.Unclaimed (record { delivery = held; provisional = h; attempt = record { epoch = k; end = t } })
 
-abbrev settled_with : HeadDelivery → LastReport → Epoch → HeadCompletion → CurrentHead
+abbrev settled_with : HeadDelivery → Option DeltaReport → Epoch → HeadCompletion → CurrentHead
 settled_with held r k t = CurrentHead.Settled (record { delivery = held; report = r; attempt = record { epoch = k; end = t } })
 
 -- Heads that differ at most in the epoch of an attempt that is not being prepared.
@@ -80,7 +77,7 @@ pub data SameHead : CurrentHead → CurrentHead → Type 0 where
   both_absent : SameHead CurrentHead.Absent CurrentHead.Absent
   both_unclaimed : (held : HeadDelivery) (h : ℕ) (k l : Epoch) (t : HeadCompletion) → SameHead (unclaimed_with held h k t) (unclaimed_with held h l t)
   both_preparing : (u : UnsettledHead) → SameHead (CurrentHead.Preparing u) (CurrentHead.Preparing u)
-  both_settled : (held : HeadDelivery) (r : LastReport) (k l : Epoch) (t : HeadCompletion) → SameHead (settled_with held r k t) (settled_with held r l t)
+  both_settled : (held : HeadDelivery) (r : Option DeltaReport) (k l : Epoch) (t : HeadCompletion) → SameHead (settled_with held r k t) (settled_with held r l t)
 
 same_head : (c : CurrentHead) → SameHead c c
 same_head CurrentHead.Absent = both_absent
@@ -91,7 +88,7 @@ same_head (CurrentHead.Settled s) = both_settled s.delivery s.report s.attempt.e
 -- They give the same to whatever reads no such epoch.
 pub same_of : {A : Type 0} {c₁ c₂ : CurrentHead} → SameHead c₁ c₂ → (f : CurrentHead → A)
     → ((held : HeadDelivery) (h : ℕ) (k l : Epoch) (t : HeadCompletion) → f (unclaimed_with held h k t) ≡ f (unclaimed_with held h l t))
-    → ((held : HeadDelivery) (r : LastReport) (k l : Epoch) (t : HeadCompletion) → f (settled_with held r k t) ≡ f (settled_with held r l t)) → f c₁ ≡ f c₂
+    → ((held : HeadDelivery) (r : Option DeltaReport) (k l : Epoch) (t : HeadCompletion) → f (settled_with held r k t) ≡ f (settled_with held r l t)) → f c₁ ≡ f c₂
 same_of both_absent f x y = refl
 same_of (both_unclaimed held h k l t) f x y = x held h k l t
 same_of (both_preparing u) f x y = refl
@@ -118,23 +115,23 @@ module _ {c₁ c₂ : CurrentHead} (w : SameHead c₁ c₂) where
   unfolding owned_by
   same_owner owner = same_of w (λ c. owned_by c owner) (λ held h k l t. refl) (λ held r k l t. refl)
 
-  same_start : (i : AnchorSlot) (e : Epoch) (ticket : HeadTicket) → claim_start_at i e c₁ ticket ≡ claim_start_at i e c₂ ticket
+  same_start : (i : Option ReadAnchor) (e : Epoch) (ticket : HeadTicket) → claim_start_at i e c₁ ticket ≡ claim_start_at i e c₂ ticket
   same_start i e ticket = same_of w (λ c. claim_start_at i e c ticket) (λ held h k l t. refl) (λ held r k l t. refl)
 
 -- Drivers.
 
-abbrev pub driver_of : CurrentHead → AnchorSlot → GenerationSlot → GenerationSlot → Seq → Epoch → HeadStats → List WaiterSlot → Driver
+abbrev pub driver_of : CurrentHead → Option ReadAnchor → Option Generation → Option Generation → Seq → Epoch → HeadStats → List WaiterSlot → Driver
 driver_of c s i p n e t ws = record { life = record { current = c; superseded = s; installed = i; previous = p; seq = n; claim_epoch = e; stats = t }; waiters = ws }
 
 -- An anchor at which an answer can tell whether it is the superseded one: it is not current, and where the current head is settled, not previous.
-abbrev pub Telling : CurrentHead → GenerationSlot → ReadAnchor → Type 0
+abbrev pub Telling : CurrentHead → Option Generation → ReadAnchor → Type 0
 Telling c p a = (holds (anchor_of (delivery c)) a ≡ false) × WhenSettled c (λ s. holds (slot_anchor p) a ≡ false)
 
-abbrev pub SameSuperseded : CurrentHead → GenerationSlot → AnchorSlot → AnchorSlot → Type 0
+abbrev pub SameSuperseded : CurrentHead → Option Generation → Option ReadAnchor → Option ReadAnchor → Type 0
 SameSuperseded c p s₁ s₂ = (a : ReadAnchor) → Telling c p a → holds s₁ a ≡ holds s₂ a
 
 pub data Alike : Driver → Driver → Type 0 where
-  alike : {c₁ c₂ : CurrentHead} {s₁ s₂ : AnchorSlot} {i p : GenerationSlot} {n : Seq} {e : Epoch} {t : HeadStats} {ws : List WaiterSlot}
+  alike : {c₁ c₂ : CurrentHead} {s₁ s₂ : Option ReadAnchor} {i p : Option Generation} {n : Seq} {e : Epoch} {t : HeadStats} {ws : List WaiterSlot}
       → SameHead c₁ c₂ → SameSuperseded c₁ p s₁ s₂ → Alike (driver_of c₁ s₁ i p n e t ws) (driver_of c₂ s₂ i p n e t ws)
 
 -- the same answer, and drivers that are alike again
@@ -142,7 +139,7 @@ pub record Both (r q : Reply) : Type 0 where
   pub answer : r.answer ≡ q.answer
   pub driver : Alike r.driver q.driver
 
-both_if : (b : Bool) (x y z w : Reply) → (b ≡ true → Both x z) → (b ≡ false → Both y w) → Both (if b x y) (if b z w)
+both_if : (b : Bool) (x y z w : Reply) → (b ≡ true → Both x z) → (b ≡ false → Both y w) → Both (cond b x y) (cond b z w)
 both_if true x y z w t f = t refl
 both_if false x y z w t f = f refl
 
@@ -155,10 +152,10 @@ unsettled_at (CurrentHead.Settled s) a = false
 
 -- a view's generations and head, where what comes after them is asked only if they don't fit
 
-generation_view_lem : (k : Source) (g : GenerationSlot) (a : ReadAnchor) (v w : HeadView) → (holds (slot_anchor g) a ≡ false → v ≡ w) → generation_view k g a v ≡ generation_view k g a w
+generation_view_lem : (k : Source) (g : Option Generation) (a : ReadAnchor) (v w : HeadView) → (holds (slot_anchor g) a ≡ false → v ≡ w) → generation_view k g a v ≡ generation_view k g a w
 unfolding generation_view slot_anchor holds
-generation_view_lem k GenerationSlot.Nothing a v w f = f refl
-generation_view_lem k (GenerationSlot.Held g) a v w f = by_test (same_anchor g.anchor a) (λ e. rw e refl) (λ e. rw e (f e))
+generation_view_lem k None a v w f = f refl
+generation_view_lem k (Some g) a v w f = by_test (same_anchor g.anchor a) (λ e. rw e refl) (λ e. rw e (f e))
 
 current_view_lem : {c₁ c₂ : CurrentHead} → SameHead c₁ c₂ → (a : ReadAnchor) (v w : HeadView) → (unsettled_at c₁ a ≡ false → v ≡ w) → current_view c₁ a v ≡ current_view c₂ a w
 unfolding current_view provisional_view
@@ -168,7 +165,7 @@ current_view_lem (both_preparing u) a v w f = by_test (same_anchor u.delivery.an
 current_view_lem (both_settled held r k l t) a v w f = f refl
 
 -- a snapshot that finds nothing asks at such an anchor: a settled head is the installed one
-pub telling : (i p : GenerationSlot) (c : CurrentHead) → WhenSettled c (λ s. slot_anchor i ≡ AnchorSlot.At s.delivery.anchor) → (a : ReadAnchor)
+pub telling : (i p : Option Generation) (c : CurrentHead) → WhenSettled c (λ s. slot_anchor i ≡ Some s.delivery.anchor) → (a : ReadAnchor)
     → holds (slot_anchor i) a ≡ false → unsettled_at c a ≡ false → holds (slot_anchor p) a ≡ false → Telling c p a
 unfolding delivery anchor_of holds
 telling i p CurrentHead.Absent f a x y z = (refl, tt)
@@ -177,11 +174,11 @@ telling i p (CurrentHead.Preparing u) f a x y z = (y, tt)
 telling i p (CurrentHead.Settled s) f a x y z = (rw f at x, z)
 
 -- The moves of two drivers that share all but head and superseded anchor.
-module _ (i p : GenerationSlot) (n : Seq) (e : Epoch) (t : HeadStats) (ws : List WaiterSlot) where
-  abbrev having : CurrentHead → AnchorSlot → Driver
+module _ (i p : Option Generation) (n : Seq) (e : Epoch) (t : HeadStats) (ws : List WaiterSlot) where
+  abbrev having : CurrentHead → Option ReadAnchor → Driver
   having c s = driver_of c s i p n e t ws
 
-  alike_delivered : {c₁ c₂ : CurrentHead} (s₁ s₂ : AnchorSlot) → SameHead c₁ c₂ → SameSuperseded c₁ p s₁ s₂ → (a : ReadAnchor) (q : Hash) (cold : ℕ)
+  alike_delivered : {c₁ c₂ : CurrentHead} (s₁ s₂ : Option ReadAnchor) → SameHead c₁ c₂ → SameSuperseded c₁ p s₁ s₂ → (a : ReadAnchor) (q : Hash) (cold : ℕ)
       → Alike (ending_with (having c₁ s₁) (delivered (having c₁ s₁).life a q cold) HeadCompletion.Superseded) (ending_with (having c₂ s₂) (delivered (having c₂ s₂).life a q cold) HeadCompletion.Superseded)
   unfolding delivered replaced delivery unsettled wake_current anchor_of holds
   alike_delivered s₁ s₂ both_absent m a q cold = alike (same_head _) (λ b x. m b (refl, tt))
@@ -189,7 +186,7 @@ module _ (i p : GenerationSlot) (n : Seq) (e : Epoch) (t : HeadStats) (ws : List
   alike_delivered s₁ s₂ (both_preparing u) m a q cold = alike (same_head _) (λ b x. refl)
   alike_delivered s₁ s₂ (both_settled held r k l x) m a q cold = alike (same_head _) (λ b x. refl)
 
-  alike_claimed : {c₁ c₂ : CurrentHead} (s₁ s₂ : AnchorSlot) → SameHead c₁ c₂ → SameSuperseded c₁ p s₁ s₂ → (k : Epoch)
+  alike_claimed : {c₁ c₂ : CurrentHead} (s₁ s₂ : Option ReadAnchor) → SameHead c₁ c₂ → SameSuperseded c₁ p s₁ s₂ → (k : Epoch)
       → Alike (with_life (having c₁ s₁) (claimed (having c₁ s₁).life k)) (with_life (having c₂ s₂) (claimed (having c₂ s₂).life k))
   unfolding with_life claimed claimed_head delivery
   alike_claimed s₁ s₂ both_absent m k = alike both_absent m
@@ -197,7 +194,7 @@ module _ (i p : GenerationSlot) (n : Seq) (e : Epoch) (t : HeadStats) (ws : List
   alike_claimed s₁ s₂ (both_preparing u) m k = alike (both_preparing u) m
   alike_claimed s₁ s₂ (both_settled held r x y z) m k = alike (both_settled held r x y z) m
 
-  alike_released : {c₁ c₂ : CurrentHead} (s₁ s₂ : AnchorSlot) → SameHead c₁ c₂ → SameSuperseded c₁ p s₁ s₂
+  alike_released : {c₁ c₂ : CurrentHead} (s₁ s₂ : Option ReadAnchor) → SameHead c₁ c₂ → SameSuperseded c₁ p s₁ s₂
       → Alike (ending_with (having c₁ s₁) (released (having c₁ s₁).life) HeadCompletion.Abandoned) (ending_with (having c₂ s₂) (released (having c₂ s₂).life) HeadCompletion.Abandoned)
   unfolding released released_head wake_current delivery
   alike_released s₁ s₂ both_absent m = alike both_absent m
@@ -206,8 +203,8 @@ module _ (i p : GenerationSlot) (n : Seq) (e : Epoch) (t : HeadStats) (ws : List
   alike_released s₁ s₂ (both_settled held r x y z) m = alike (both_settled held r x y z) m
 
   -- a head that settles still hides its own anchor
-  alike_settled : {c₁ c₂ : CurrentHead} (s₁ s₂ : AnchorSlot) → SameHead c₁ c₂ → SameSuperseded c₁ p s₁ s₂
-      → WhenSettled c₁ (λ s. slot_anchor i ≡ AnchorSlot.At s.delivery.anchor) → (held : HeadDelivery) → delivery c₁ ≡ DeliverySlot.Held held → holds (slot_anchor i) held.anchor ≡ false
+  alike_settled : {c₁ c₂ : CurrentHead} (s₁ s₂ : Option ReadAnchor) → SameHead c₁ c₂ → SameSuperseded c₁ p s₁ s₂
+      → WhenSettled c₁ (λ s. slot_anchor i ≡ Some s.delivery.anchor) → (held : HeadDelivery) → delivery c₁ ≡ Some held → holds (slot_anchor i) held.anchor ≡ false
       → (a : ReadAnchor) (o : CarryOutcome) (handle report : ℕ)
       → Alike (ending_with (having c₁ s₁) (settle (having c₁ s₁).life a o handle report) HeadCompletion.Settled) (ending_with (having c₂ s₂) (settle (having c₂ s₂).life a o handle report) HeadCompletion.Settled)
   unfolding settle settled_head settling_epoch abandonment publish first_end settled wake_current delivery
@@ -216,10 +213,10 @@ module _ (i p : GenerationSlot) (n : Seq) (e : Epoch) (t : HeadStats) (ws : List
       (λ t. rw t (alike (both_settled v _ _ _ _) (λ c k. m c (k.0, tt))))
       (λ t. rw t (alike (both_settled v _ _ _ _) (λ c k. m c (k.0, tt))))
   alike_settled s₁ s₂ (both_preparing u) m f held q b a o handle report = alike (same_head _) (λ c z. m c (z.0, tt))
-  alike_settled s₁ s₂ (both_settled v r x y z) m f held q b a o handle report = true_false (same_holds _ _ (f ∙ ap (λ k. AnchorSlot.At k.anchor) (held_same q))) b
+  alike_settled s₁ s₂ (both_settled v r x y z) m f held q b a o handle report = true_false (same_holds _ _ (f ∙ ap (λ k. Some k.anchor) (held_same q))) b
 
   -- The calls.
-  module _ {c₁ c₂ : CurrentHead} (s₁ s₂ : AnchorSlot) (w : SameHead c₁ c₂) (m : SameSuperseded c₁ p s₁ s₂) (f : WhenSettled c₁ (λ s. slot_anchor i ≡ AnchorSlot.At s.delivery.anchor)) where
+  module _ {c₁ c₂ : CurrentHead} (s₁ s₂ : Option ReadAnchor) (w : SameHead c₁ c₂) (m : SameSuperseded c₁ p s₁ s₂) (f : WhenSettled c₁ (λ s. slot_anchor i ≡ Some s.delivery.anchor)) where
     abbrev d₁ : Driver
     d₁ = having c₁ s₁
 
@@ -229,15 +226,15 @@ module _ (i p : GenerationSlot) (n : Seq) (e : Epoch) (t : HeadStats) (ws : List
     both_reply : (x : Answer) → Both (reply_of d₁ x) (reply_of d₂ x)
     both_reply x = record { answer = refl; driver = alike w m }
 
-    both_deliver : (a : ReadAnchor) (q : Hash) (cold : ℕ) (r : Repeat) → Both (deliver_as d₁ a q cold r) (deliver_as d₂ a q cold r)
+    both_deliver : (a : ReadAnchor) (q : Hash) (cold : ℕ) (r : Option Seq) → Both (deliver_as d₁ a q cold r) (deliver_as d₂ a q cold r)
     unfolding deliver_as with_life counted
-    both_deliver a q cold Repeat.New = record { answer = refl; driver = alike_delivered s₁ s₂ w m a q cold }
-    both_deliver a q cold (Repeat.Of k) = record { answer = refl; driver = alike w m }
+    both_deliver a q cold None = record { answer = refl; driver = alike_delivered s₁ s₂ w m a q cold }
+    both_deliver a q cold (Some k) = record { answer = refl; driver = alike w m }
 
-    both_claim : (x : ClaimStart) → Both (claim_as d₁ x) (claim_as d₂ x)
+    both_claim : (x : Result Epoch HeadOutcome) → Both (claim_as d₁ x) (claim_as d₂ x)
     unfolding claim_as
-    both_claim (ClaimStart.Claimed k) = record { answer = refl; driver = alike_claimed s₁ s₂ w m k }
-    both_claim (ClaimStart.Refused o) = both_reply _
+    both_claim (Ok k) = record { answer = refl; driver = alike_claimed s₁ s₂ w m k }
+    both_claim (Err o) = both_reply _
 
     both_release : (owner : PrepareClaim) → Both (release d₁ owner) (release d₂ owner)
     unfolding release
@@ -248,11 +245,11 @@ module _ (i p : GenerationSlot) (n : Seq) (e : Epoch) (t : HeadStats) (ws : List
     abbrev SamePlan : BalSkip → ℕ → ℕ → ℕ → ApplyPlan → Type 0
     SamePlan skip handle carried report plan = Both (apply_as d₁ skip handle carried report plan) (apply_as d₂ skip handle carried report plan)
 
-    both_plan : (ticket : HeadTicket) (list : PreparedBal) (handle carried report : ℕ) (slot : DeliverySlot) → delivery c₁ ≡ slot
+    both_plan : (ticket : HeadTicket) (list : PreparedBal) (handle carried report : ℕ) (slot : Option HeadDelivery) → delivery c₁ ≡ slot
         → SamePlan list.skip handle carried report (plan_at (slot_anchor i) slot ticket list.anchor)
     unfolding apply_as plan_held settle_as with_life counted
-    both_plan ticket list handle carried report DeliverySlot.Nothing q = record { answer = refl; driver = alike w m }
-    both_plan ticket list handle carried report (DeliverySlot.Held held) q =
+    both_plan ticket list handle carried report None q = record { answer = refl; driver = alike w m }
+    both_plan ticket list handle carried report (Some held) q =
         let P = SamePlan list.skip handle carried report in
         by_if P (ticket_of held ticket) _ _
         (λ b. by_if P (same_anchor list.anchor held.anchor) _ _

@@ -1,13 +1,14 @@
 -- Calls that bring a driver to a known state, where another call then tells what no single call does.
+use Rattle.std.specs.Prelude.{Option, None, Some, cond}
+use Rattle.head_ready.specs.declared.Generation.{Generation}
 use Prim.Native.Nat.{ℕ}
 use mathlib.Core.Bool.{Bool, true, false}
 use mathlib.Core.Path.{◌≡◌, refl, sym, ap, ◌∙◌}
 use native.Mathlib.Omega.{arith}
 use lib.Dec.{eqb, lit<}
 use borrow.Author.Tests.{eqb-true, eqb-false}
-use Rattle.hash.specs.Logic.{if}
 use Rattle.head_anchor.specs.Anchors.{holds}
-use Rattle.head_anchor.specs.Lists.{apply_prepared, as_prepared, has_hash, is_linked, is_no_hash, is_read, outcome}
+use Rattle.head_anchor.specs.Lists.{apply_prepared, as_prepared, is_linked, is_no_hash, is_read, outcome}
 use Rattle.head_apply.specs.Apply.{apply, apply_as, settle_as}
 use Rattle.head_attempt.specs.Attempts.{minted}
 use Rattle.head_count.specs.Counters.{same_epoch, same_seq}
@@ -28,20 +29,14 @@ use Rattle.head_anchor.specs.declared.BalSkip.{BalSkip}
 use Rattle.head_anchor.specs.declared.CarryOutcome.{CarryOutcome}
 use Rattle.head_anchor.specs.declared.Link.{Link}
 use Rattle.head_anchor.specs.declared.PreparedBal.{PreparedBal}
-use Rattle.head_anchor.specs.declared.AnchorSlot.{AnchorSlot}
-use Rattle.head_anchor.specs.declared.BlockHash.{BlockHash}
 use Rattle.head_anchor.specs.declared.ReadAnchor.{ReadAnchor}
 use Rattle.head_count.specs.declared.Epoch.{Epoch}
 use Rattle.head_attempt.specs.declared.HeadCompletion.{HeadCompletion}
 use Rattle.head_count.specs.declared.Seq.{Seq}
 use Rattle.head_current.specs.declared.CurrentHead.{CurrentHead}
-use Rattle.head_current.specs.declared.DeliverySlot.{DeliverySlot}
 use Rattle.head_current.specs.declared.HeadDelivery.{HeadDelivery}
-use Rattle.head_current.specs.declared.LastReport.{LastReport}
-use Rattle.head_deliver.specs.declared.head_lifecycle.Repeat.{Repeat}
 use Rattle.head_current.specs.declared.UnsettledHead.{UnsettledHead}
 use Rattle.head_driver.specs.declared.Driver.{Driver}
-use Rattle.head_ready.specs.declared.GenerationSlot.{GenerationSlot}
 use Rattle.head_call.specs.declared.Call.{Call}
 use Rattle.alike.proofs.KeptOrder.{Settles, head_settles}
 use Rattle.alike.proofs.Poses.{Pose, Unsettled, current_anchor, held_at, installed_anchor, not_installed, pose}
@@ -51,11 +46,12 @@ use Rattle.alike.specs.Invariant.{Ordered}
 use Rattle.head_anchor.specs.Ranges.{AnchorFits, SkipFits}
 use Rattle.hash.specs.Ranges.{Fits, HashFits}
 use Rattle.head_call.specs.Ranges.{Writable}
+use Rattle.head_current.specs.Parts.{report_of}
 
 -- An anchor that is in neither of two slots: one of three numbers is not theirs.
 
 other : ℕ → ℕ → ℕ
-other m n = if (eqb m 0) (if (eqb n 1) 2 1) (if (eqb n 0) (if (eqb m 1) 2 1) 0)
+other m n = cond (eqb m 0) (cond (eqb n 1) 2 1) (cond (eqb n 0) (cond (eqb m 1) 2 1) 0)
 
 other_not : (m n : ℕ) → (m ≡ other m n → ⊥) × (n ≡ other m n → ⊥)
 unfolding other
@@ -70,27 +66,27 @@ other_not m n =
     (λ r. (λ z. eqb-false m 1 r z, λ z. omega (arith, eqb-true n 0 q))))
     (λ q. (λ z. eqb-false m 0 p z, λ z. eqb-false n 0 q z)))
 
-abbrev number_in : AnchorSlot → ℕ
-number_in AnchorSlot.Nothing = 0
-number_in (AnchorSlot.At a) = a.number
+abbrev number_in : Option ReadAnchor → ℕ
+number_in None = 0
+number_in (Some a) = a.number
 
-pub outside : AnchorSlot → AnchorSlot → ReadAnchor
-outside s t = record { number = other (number_in s) (number_in t); hash = BlockHash.Unknown }
+pub outside : Option ReadAnchor → Option ReadAnchor → ReadAnchor
+outside s t = record { number = other (number_in s) (number_in t); hash = None }
 
-other_number : (s : AnchorSlot) (b : ReadAnchor) → (number_in s ≡ b.number → ⊥) → holds s b ≡ false
+other_number : (s : Option ReadAnchor) (b : ReadAnchor) → (number_in s ≡ b.number → ⊥) → holds s b ≡ false
 unfolding holds
-other_number AnchorSlot.Nothing b n = refl
-other_number (AnchorSlot.At a) b n = is_false _ (λ t. n (ap (λ c. c.number) (same_anchor_lem a b t)))
+other_number None b n = refl
+other_number (Some a) b n = is_false _ (λ t. n (ap (λ c. c.number) (same_anchor_lem a b t)))
 
-pub outside_first : (s t : AnchorSlot) → holds s (outside s t) ≡ false
+pub outside_first : (s t : Option ReadAnchor) → holds s (outside s t) ≡ false
 unfolding outside
 outside_first s t = other_number s _ (other_not (number_in s) (number_in t)).0
 
-pub outside_second : (s t : AnchorSlot) → holds t (outside s t) ≡ false
+pub outside_second : (s t : Option ReadAnchor) → holds t (outside s t) ≡ false
 unfolding outside
 outside_second s t = other_number t _ (other_not (number_in s) (number_in t)).1
 
-pub outside_fits : (s t : AnchorSlot) → AnchorFits (outside s t)
+pub outside_fits : (s t : Option ReadAnchor) → AnchorFits (outside s t)
 unfolding outside other
 outside_fits s t = record {
   number = by_if Fits (eqb (number_in s) 0) _ _ (λ p. by_if Fits (eqb (number_in t) 1) _ _ (λ q. lit< tt) (λ q. lit< tt)) (λ p. by_if Fits (eqb (number_in t) 0) _ _ (λ q. by_if Fits (eqb (number_in s) 1) _ _ (λ r. lit< tt) (λ r. lit< tt)) (λ q. lit< tt));
@@ -110,10 +106,10 @@ abbrev pub delivering : ReadAnchor → Call
 delivering a = Call.Deliver a zeros 0
 
 -- a delivery of another anchor than the current one is new
-not_repeated : (s : DeliverySlot) (a : ReadAnchor) (p : Hash) → holds (anchor_of s) a ≡ false → repeats s a p ≡ Repeat.New
+not_repeated : (s : Option HeadDelivery) (a : ReadAnchor) (p : Hash) → holds (anchor_of s) a ≡ false → repeats s a p ≡ None
 unfolding repeats repeat_of same_delivery anchor_of holds
-not_repeated DeliverySlot.Nothing a p e = refl
-not_repeated (DeliverySlot.Held held) a p e = rw e refl
+not_repeated None a p e = refl
+not_repeated (Some held) a p e = rw e refl
 
 abbrev pub delivered_new : Driver → Bool → ReadAnchor → Driver
 delivered_new d here a = ending_with d (delivered_at here d.life a zeros 0) HeadCompletion.Superseded
@@ -134,27 +130,27 @@ release_hit d v u q n e p r =
 
 -- An apply that settles cold, whatever is installed.
 
-cold_skip : BlockHash → BalSkip
-cold_skip BlockHash.Unknown = BalSkip.NoHash
-cold_skip (BlockHash.Known h) = BalSkip.Rpc 0
+cold_skip : Option Hash → BalSkip
+cold_skip None = BalSkip.NoHash
+cold_skip (Some h) = BalSkip.Rpc 0
 
-cold_skip_fits : (b : BlockHash) → SkipFits (cold_skip b)
+cold_skip_fits : (b : Option Hash) → SkipFits (cold_skip b)
 unfolding cold_skip
-cold_skip_fits BlockHash.Unknown = tt
-cold_skip_fits (BlockHash.Known h) = lit< tt
+cold_skip_fits None = tt
+cold_skip_fits (Some h) = lit< tt
 
 abbrev cold_list : ReadAnchor → PreparedBal
 cold_list a = record { anchor = a; skip = cold_skip a.hash }
 
-cold_prepared : (h : BlockHash) (n : ℕ) → as_prepared (record { anchor = record { number = n; hash = h }; skip = cold_skip h }) ≡ true
-unfolding as_prepared cold_skip is_no_hash has_hash
-cold_prepared BlockHash.Unknown n = refl
-cold_prepared (BlockHash.Known h) n = refl
+cold_prepared : (h : Option Hash) (n : ℕ) → as_prepared (record { anchor = record { number = n; hash = h }; skip = cold_skip h }) ≡ true
+unfolding as_prepared cold_skip is_no_hash
+cold_prepared None n = refl
+cold_prepared (Some h) n = refl
 
-cold_previous : (h : BlockHash) (link : Link) (i : GenerationSlot) → previous_after i (outcome link (cold_skip h) 0) ≡ GenerationSlot.Nothing
+cold_previous : (h : Option Hash) (link : Link) (i : Option Generation) → previous_after i (outcome link (cold_skip h) 0) ≡ None
 unfolding previous_after outcome cold_skip is_linked is_read
-cold_previous BlockHash.Unknown Link.Linked i = refl
-cold_previous (BlockHash.Known h) Link.Linked i = refl
+cold_previous None Link.Linked i = refl
+cold_previous (Some h) Link.Linked i = refl
 cold_previous h Link.NoParent i = refl
 cold_previous h Link.NotConsecutive i = refl
 cold_previous h Link.HashUnknown i = refl
@@ -170,26 +166,26 @@ cold_writable a n f g = (f, g, f, cold_skip_fits a.hash, lit< tt, lit< tt, lit< 
 -- what it leaves
 pub record Colded (d : Driver) (a : ReadAnchor) (e : Driver) : Type 0 where
   pub settles : pose e.life.current ≡ Pose.Settled
-  pub anchors : current_anchor e ≡ AnchorSlot.At a
+  pub anchors : current_anchor e ≡ Some a
   pub keeps : e.life.superseded ≡ d.life.superseded
-  pub installs : installed_anchor e ≡ AnchorSlot.At a
-  pub empties : e.life.previous ≡ GenerationSlot.Nothing
+  pub installs : installed_anchor e ≡ Some a
+  pub empties : e.life.previous ≡ None
   pub wakes : e.waiters ≡ wake_current HeadCompletion.Settled d.life.current d.waiters
 
-settle_colded : (d : Driver) (held : HeadDelivery) (o : CarryOutcome) (a : ReadAnchor) → previous_after d.life.installed o ≡ GenerationSlot.Nothing → held.anchor ≡ a
-    → Settles (settled_head d.life.current (settling_epoch d.life.current d.life.claim_epoch) (LastReport.Made o 0)) held (LastReport.Made o 0)
+settle_colded : (d : Driver) (held : HeadDelivery) (o : CarryOutcome) (a : ReadAnchor) → previous_after d.life.installed o ≡ None → held.anchor ≡ a
+    → Settles (settled_head d.life.current (settling_epoch d.life.current d.life.claim_epoch) (Some (report_of o 0))) held (Some (report_of o 0))
     → Colded d a (ending_with d (settle d.life held.anchor o 0 0) HeadCompletion.Settled)
 unfolding settle anchor_of delivery slot_anchor
 settle_colded d held o a p q s = record {
   settles = ap pose s.1;
-  anchors = ap (λ c. anchor_of (delivery c)) s.1 ∙ ap AnchorSlot.At q;
+  anchors = ap (λ c. anchor_of (delivery c)) s.1 ∙ ap Some q;
   keeps = refl;
-  installs = ap AnchorSlot.At q;
+  installs = ap Some q;
   empties = p;
   wakes = refl;
 }
 
-pub cold_step : (d : Driver) → Ordered d.life → Unsettled (pose d.life.current) → (a : ReadAnchor) → current_anchor d ≡ AnchorSlot.At a → Colded d a (dispatch d (cold_call a d.life.seq)).driver
+pub cold_step : (d : Driver) → Ordered d.life → Unsettled (pose d.life.current) → (a : ReadAnchor) → current_anchor d ≡ Some a → Colded d a (dispatch d (cold_call a d.life.seq)).driver
 unfolding cold_call dispatch apply plan_apply plan_held apply_as settle_as apply_prepared
 cold_step d v u a e =
     let h = held_at (delivery d.life.current) a e in

@@ -1,4 +1,6 @@
 -- What a sheet shows is itself a driver that keeps the invariant, and shows just that.
+use Rattle.std.specs.Prelude.{Option, None, Some}
+use Rattle.head_ready.specs.declared.Generation.{Generation}
 use Prim.Native.Nat.{ℕ, ◌≤◌}
 use mathlib.Core.Bool.{false}
 use mathlib.Core.List.{List}
@@ -8,7 +10,6 @@ use Rattle.head_anchor.specs.Anchors.{holds}
 use Rattle.head_attempt.specs.Attempts.{minted, settled}
 use Rattle.head_current.specs.Heads.{anchor_of, delivery}
 use Rattle.head_ready.specs.Generations.{slot_anchor}
-use Rattle.head_anchor.specs.declared.AnchorSlot.{AnchorSlot}
 use Rattle.head_anchor.specs.declared.ReadAnchor.{ReadAnchor}
 use Rattle.head_count.specs.declared.Epoch.{Epoch}
 use Rattle.head_attempt.specs.declared.HeadCompletion.{HeadCompletion}
@@ -17,7 +18,6 @@ use Rattle.head_current.specs.declared.CurrentHead.{CurrentHead}
 use Rattle.head_current.specs.declared.HeadDelivery.{HeadDelivery}
 use Rattle.head_current.specs.declared.UnsettledHead.{UnsettledHead}
 use Rattle.head_driver.specs.declared.Driver.{Driver}
-use Rattle.head_ready.specs.declared.GenerationSlot.{GenerationSlot}
 use Rattle.alike.proofs.Alike.{Alike, SameHead, SameSuperseded, same_delivery, same_report}
 use Rattle.alike.proofs.Masks.{mask_fits, mask_twice}
 use Rattle.alike.proofs.Shown.{alike_canon, shown_waiters_lem}
@@ -39,13 +39,13 @@ same_by (SameHead.both_preparing u) A U P S x = x
 same_by (SameHead.both_settled held r k l t) A U P S x = x
 
 -- with no head every anchor tells
-same_nothing : (s₁ s₂ : AnchorSlot) → ((a : ReadAnchor) → holds s₁ a ≡ holds s₂ a) → s₁ ≡ AnchorSlot.Nothing → s₂ ≡ AnchorSlot.Nothing
+same_nothing : (s₁ s₂ : Option ReadAnchor) → ((a : ReadAnchor) → holds s₁ a ≡ holds s₂ a) → s₁ ≡ None → s₂ ≡ None
 unfolding holds
-same_nothing s₁ AnchorSlot.Nothing m q = refl
-same_nothing s₁ (AnchorSlot.At b) m q = true_false (m b ∙ anchor_same b b refl) (rw q refl)
+same_nothing s₁ None m q = refl
+same_nothing s₁ (Some b) m q = true_false (m b ∙ anchor_same b b refl) (rw q refl)
 
-same_rest : {c₁ c₂ : CurrentHead} → SameHead c₁ c₂ → (s₁ s₂ : AnchorSlot) (i p : GenerationSlot) → SameSuperseded c₁ p s₁ s₂
-    → WhenAbsent c₁ ((s₁ ≡ AnchorSlot.Nothing) × (i ≡ GenerationSlot.Nothing) × (p ≡ GenerationSlot.Nothing)) → WhenAbsent c₂ ((s₂ ≡ AnchorSlot.Nothing) × (i ≡ GenerationSlot.Nothing) × (p ≡ GenerationSlot.Nothing))
+same_rest : {c₁ c₂ : CurrentHead} → SameHead c₁ c₂ → (s₁ s₂ : Option ReadAnchor) (i p : Option Generation) → SameSuperseded c₁ p s₁ s₂
+    → WhenAbsent c₁ ((s₁ ≡ None) × (i ≡ None) × (p ≡ None)) → WhenAbsent c₂ ((s₂ ≡ None) × (i ≡ None) × (p ≡ None))
 unfolding delivery anchor_of holds
 same_rest SameHead.both_absent s₁ s₂ i p m f = (same_nothing s₁ s₂ (λ a. m a (refl, tt)) f.0, f.1, f.2)
 same_rest (SameHead.both_unclaimed held h k l t) s₁ s₂ i p m f = tt
@@ -58,7 +58,7 @@ ordered_alike (Alike.alike {s₁ = s₁} {s₂ = s₂} {i = i} {p = p} {e = e} w
   seq_current = rw (same_delivery w) at v.seq_current;
   preparing_attempt = same_by w (Unit {0}) (λ h t. Unit {0}) (λ u. u.attempt ≡ minted e) (λ h t. Unit {0}) v.preparing_attempt;
   settled_end = same_by w (Unit {0}) (λ h t. Unit {0}) Any (λ h t. t ≡ HeadCompletion.Settled) v.settled_end;
-  settled_installed = same_by w (Unit {0}) (λ h t. Unit {0}) Any (λ h t. slot_anchor i ≡ AnchorSlot.At h.anchor) v.settled_installed;
+  settled_installed = same_by w (Unit {0}) (λ h t. Unit {0}) Any (λ h t. slot_anchor i ≡ Some h.anchor) v.settled_installed;
   unsettled_elsewhere = same_by w (Unit {0}) (λ h t. holds (slot_anchor i) h.anchor ≡ false) (λ u. holds (slot_anchor i) u.delivery.anchor ≡ false) (λ h t. Unit {0}) v.unsettled_elsewhere;
   unclaimed_end = same_by w (Unit {0}) (λ h t. OpenOrAbandoned t) Any (λ h t. Unit {0}) v.unclaimed_end;
   absent_rest = same_rest w s₁ s₂ i p m v.absent_rest;
@@ -81,7 +81,7 @@ module _ (n : ℕ) (e : Epoch) where
   shown_twice (CurrentHead.Preparing u) = refl
   shown_twice (CurrentHead.Settled s) = refl
 
-  shown_masked : (c : CurrentHead) (p : GenerationSlot) → masked (shown_head n e c) p ≡ masked c p
+  shown_masked : (c : CurrentHead) (p : Option Generation) → masked (shown_head n e c) p ≡ masked c p
   unfolding shown_head masked delivery anchor_of
   shown_masked CurrentHead.Absent p = refl
   shown_masked (CurrentHead.Unclaimed u) p = refl

@@ -1,4 +1,6 @@
 -- Probes of several calls: the last call's answer tells the part.
+use Rattle.std.specs.Prelude.{Option, None, Some}
+use Rattle.head_ready.specs.declared.Generation.{Generation}
 use Prim.Native.Nat.{ℕ, ◌<◌}
 use mathlib.Core.Bool.{Bool, true, false}
 use mathlib.Core.Path.{◌≡◌, refl, sym, ap, ◌∙◌}
@@ -10,13 +12,11 @@ use Rattle.head_deliver.specs.Delivered.{new_head}
 use Rattle.head_ready.specs.Generations.{slot_anchor}
 use Rattle.head_step.specs.Dispatch.{dispatch}
 use Rattle.head_view.specs.Views.{spare_reason, spare_view}
-use Rattle.head_anchor.specs.declared.AnchorSlot.{AnchorSlot}
 use Rattle.head_anchor.specs.declared.ReadAnchor.{ReadAnchor}
 use Rattle.head_count.specs.declared.Epoch.{Epoch}
 use Rattle.head_current.specs.declared.CurrentHead.{CurrentHead}
 use Rattle.head_driver.specs.declared.Answer.{Answer}
 use Rattle.head_driver.specs.declared.Driver.{Driver}
-use Rattle.head_ready.specs.declared.GenerationSlot.{GenerationSlot}
 use Rattle.head_ready.specs.declared.HeadReadiness.{HeadReadiness}
 use Rattle.head_ready.specs.declared.Source.{Source}
 use Rattle.head_call.specs.declared.Call.{Call}
@@ -65,13 +65,13 @@ previous_settled {d₁} {d₂} w n = same_generation Source.Previous d₁.life.p
     ∙ snapshot_previous d₂ v₂ g₂ g₁.anchor 0 (previous_elsewhere _ _ v₂.previous_below g₂ g₁.anchor q e) (settled_not_at d₂.life.current _ (rw (probe_pose w) at n)) q e)
 
 -- an unsettled head is not at the installed anchor
-current_elsewhere : (d : Driver) → Ordered d.life → Unsettled (pose d.life.current) → (a : ReadAnchor) → installed_anchor d ≡ AnchorSlot.At a → holds (current_anchor d) a ≡ false
+current_elsewhere : (d : Driver) → Ordered d.life → Unsettled (pose d.life.current) → (a : ReadAnchor) → installed_anchor d ≡ Some a → holds (current_anchor d) a ≡ false
 current_elsewhere d v u a e = is_false _ (λ t. true_false (same_holds _ _ e) (not_installed d.life v _ refl u a (holds_same _ _ t)))
 
-previous_unsettled : {d₁ d₂ : Driver} → Twin d₁ d₂ → Unsettled (pose d₁.life.current) → (s : AnchorSlot) → installed_anchor d₁ ≡ s → d₁.life.previous ≡ d₂.life.previous
+previous_unsettled : {d₁ d₂ : Driver} → Twin d₁ d₂ → Unsettled (pose d₁.life.current) → (s : Option ReadAnchor) → installed_anchor d₁ ≡ s → d₁.life.previous ≡ d₂.life.previous
 unfolding new_head
-previous_unsettled {d₁} {d₂} w u AnchorSlot.Nothing e = previous_empty _ _ w.invariant₁.ordered.previous_below e ∙ sym (previous_empty _ _ w.invariant₂.ordered.previous_below (sym (probe_anchors w).1 ∙ e))
-previous_unsettled {d₁} {d₂} w u (AnchorSlot.At a) e =
+previous_unsettled {d₁} {d₂} w u None e = previous_empty _ _ w.invariant₁.ordered.previous_below e ∙ sym (previous_empty _ _ w.invariant₂.ordered.previous_below (sym (probe_anchors w).1 ∙ e))
+previous_unsettled {d₁} {d₂} w u (Some a) e =
     previous_settled (twin_deliver w true a (generation_fits d₁.life.installed a w.invariant₁.fits.life.installed e) (current_elsewhere d₁ w.invariant₁.ordered u a e) (same_holds _ _ e)) (λ b. b)
 
 pub probe_previous : {d₁ d₂ : Driver} → Twin d₁ d₂ → d₁.life.previous ≡ d₂.life.previous
@@ -94,7 +94,7 @@ reason_same true false e = cc
 reason_same false true e = cc
 reason_same false false e = refl
 
-spare_superseded : (s t : AnchorSlot) (x : ReadAnchor) → Answer.View (spare_view s x 0) ≡ Answer.View (spare_view t x 0) → holds s x ≡ holds t x
+spare_superseded : (s t : Option ReadAnchor) (x : ReadAnchor) → Answer.View (spare_view s x 0) ≡ Answer.View (spare_view t x 0) → holds s x ≡ holds t x
 unfolding spare_view
 spare_superseded s t x q =
     let y : spare_view s x 0 ≡ spare_view t x 0 = cc in
@@ -112,7 +112,7 @@ superseded_one {d₁} {d₂} w k x f t =
     (sym (snapshot_spare d₁ w.invariant₁.ordered x 0 o.0 u₁ o.1) ∙ twin_answer w (Call.Snapshot x 0) (f, zero_fits) ∙ snapshot_spare d₂ w.invariant₂.ordered x 0 i₂ u₂ p₂)
 
 -- an anchor that no slot can hold is in neither
-by_range : (s t : AnchorSlot) (x : ReadAnchor) → SlotFits s → SlotFits t → (AnchorFits x → holds s x ≡ holds t x) → holds s x ≡ holds t x
+by_range : (s t : Option ReadAnchor) (x : ReadAnchor) → SlotFits s → SlotFits t → (AnchorFits x → holds s x ≡ holds t x) → holds s x ≡ holds t x
 by_range s t x f g e = by_test (holds s x)
     (λ p. e (rw (holds_same s x p) at f))
     (λ p. by_test (holds t x) (λ q. e (rw (holds_same t x q) at g)) (λ q. p ∙ sym q))
@@ -124,30 +124,30 @@ superseded_settled {d₁} {d₂} w k x t = by_range _ _ x w.invariant₁.fits.li
 pub twin_cold : {d₁ d₂ : Driver} → Twin d₁ d₂ → (a : ReadAnchor) → AnchorFits a → Twin (dispatch d₁ (cold_call a d₁.life.seq)).driver (dispatch d₂ (cold_call a d₁.life.seq)).driver
 twin_cold {d₁} w a f = twin_step w (cold_call a d₁.life.seq) (cold_writable a d₁.life.seq f w.invariant₁.fits.life.seq)
 
-pub twin_colded : {d₁ d₂ : Driver} → Twin d₁ d₂ → Unsettled (pose d₁.life.current) → (a : ReadAnchor) → current_anchor d₁ ≡ AnchorSlot.At a → Colded d₂ a (dispatch d₂ (cold_call a d₁.life.seq)).driver
+pub twin_colded : {d₁ d₂ : Driver} → Twin d₁ d₂ → Unsettled (pose d₁.life.current) → (a : ReadAnchor) → current_anchor d₁ ≡ Some a → Colded d₂ a (dispatch d₂ (cold_call a d₁.life.seq)).driver
 twin_colded {d₁} {d₂} w u a e = rw (probe_seq w) (cold_step d₂ w.invariant₂.ordered (twin_unsettled w u) a (twin_anchor w a e))
 
 -- with nothing previous, an anchor that is not current tells
-telling_alone : (c : CurrentHead) (p : GenerationSlot) (x : ReadAnchor) → p ≡ GenerationSlot.Nothing → holds (anchor_of (delivery c)) x ≡ false → Telling c p x
+telling_alone : (c : CurrentHead) (p : Option Generation) (x : ReadAnchor) → p ≡ None → holds (anchor_of (delivery c)) x ≡ false → Telling c p x
 unfolding slot_anchor holds
 telling_alone CurrentHead.Absent p x q e = (e, tt)
 telling_alone (CurrentHead.Unclaimed u) p x q e = (e, tt)
 telling_alone (CurrentHead.Preparing u) p x q e = (e, tt)
 telling_alone (CurrentHead.Settled s) p x q e = (e, rw q refl)
 
-superseded_unsettled : {d₁ d₂ : Driver} → Twin d₁ d₂ → Unsettled (pose d₁.life.current) → (a : ReadAnchor) → current_anchor d₁ ≡ AnchorSlot.At a → SameSuperseded d₁.life.current d₁.life.previous d₁.life.superseded d₂.life.superseded
+superseded_unsettled : {d₁ d₂ : Driver} → Twin d₁ d₂ → Unsettled (pose d₁.life.current) → (a : ReadAnchor) → current_anchor d₁ ≡ Some a → SameSuperseded d₁.life.current d₁.life.previous d₁.life.superseded d₂.life.superseded
 superseded_unsettled {d₁} {d₂} w u a e x t =
     let c₁ = cold_step d₁ w.invariant₁.ordered u a e in
     let c₂ = twin_colded w u a e in
     let o = telling_alone (dispatch d₁ (cold_call a d₁.life.seq)).driver.life.current _ x c₁.empties (ap (λ s. holds s x) (c₁.anchors ∙ sym e) ∙ t.0) in
     ap (λ s. holds s x) (sym c₁.keeps) ∙ superseded_settled (twin_cold w a (anchor_fits w a e)) c₁.settles x o ∙ ap (λ s. holds s x) c₂.keeps
 
-absent_nothing : (d : Driver) → Ordered d.life → current_anchor d ≡ AnchorSlot.Nothing → d.life.superseded ≡ AnchorSlot.Nothing
+absent_nothing : (d : Driver) → Ordered d.life → current_anchor d ≡ None → d.life.superseded ≡ None
 absent_nothing d v e = (rw (absent_of d.life.current e) at v.absent_rest).0
 
-superseded_at : {d₁ d₂ : Driver} → Twin d₁ d₂ → (s : AnchorSlot) → current_anchor d₁ ≡ s → SameSuperseded d₁.life.current d₁.life.previous d₁.life.superseded d₂.life.superseded
-superseded_at {d₁} {d₂} w AnchorSlot.Nothing e x t = ap (λ s. holds s x) (absent_nothing d₁ w.invariant₁.ordered e ∙ sym (absent_nothing d₂ w.invariant₂.ordered (sym (probe_anchors w).0 ∙ e)))
-superseded_at {d₁} {d₂} w (AnchorSlot.At a) e x t = by_pose (pose d₁.life.current)
+superseded_at : {d₁ d₂ : Driver} → Twin d₁ d₂ → (s : Option ReadAnchor) → current_anchor d₁ ≡ s → SameSuperseded d₁.life.current d₁.life.previous d₁.life.superseded d₂.life.superseded
+superseded_at {d₁} {d₂} w None e x t = ap (λ s. holds s x) (absent_nothing d₁ w.invariant₁.ordered e ∙ sym (absent_nothing d₂ w.invariant₂.ordered (sym (probe_anchors w).0 ∙ e)))
+superseded_at {d₁} {d₂} w (Some a) e x t = by_pose (pose d₁.life.current)
     (λ u. superseded_unsettled w u a e x t)
     (λ n. superseded_settled w (settled_pose d₁.life.current a n e) x t)
 

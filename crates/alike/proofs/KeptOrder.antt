@@ -1,11 +1,12 @@
 -- Every call keeps the lifecycle's rules, I1 to I6 and I8 to I10.
+use Rattle.std.specs.Prelude.{Option, None, Some, ◌&&◌}
+use Rattle.head_current.specs.declared.DeltaReport.{DeltaReport}
 use Prim.Native.Nat.{ℕ, ◌+◌}
 use mathlib.Core.Bool.{Bool, true, false}
 use mathlib.Core.Path.{◌≡◌, refl, sym, ap, ◌∙◌, subst}
 use native.Mathlib.Omega.{arith}
 use lib.Dec.{eqb}
 use borrow.Author.Tests.{eqb-true}
-use Rattle.hash.specs.Logic.{both}
 use Rattle.head_anchor.specs.Anchors.{holds}
 use Rattle.head_anchor.specs.Links.{classify_link, follows}
 use Rattle.head_anchor.specs.Lists.{apply_prepared, is_linked, is_read, outcome}
@@ -17,7 +18,7 @@ use Rattle.head_deliver.specs.Delivered.{unsettled, count_delivery, count_replac
 use Rattle.head_settle.specs.Settles.{abandonment, settled_head, settling_epoch, settle}
 use Rattle.head_claim.specs.Claimed.{claimed_head, claimed}
 use Rattle.head_release.specs.Released.{released_head, released}
-use Rattle.head_current.specs.Parts.{settled_of}
+use Rattle.head_current.specs.Parts.{report_of, settled_of}
 use Rattle.head_driver.specs.Parts.{with_life}
 use Rattle.head_ready.specs.Generations.{previous_after, settled_readiness, slot_anchor}
 use Rattle.head_life.specs.State.{counted, with_stats}
@@ -27,20 +28,16 @@ use Rattle.hash.specs.declared.Hash.{Hash}
 use Rattle.head_anchor.specs.declared.BalSkip.{BalSkip}
 use Rattle.head_anchor.specs.declared.CarryOutcome.{CarryOutcome}
 use Rattle.head_anchor.specs.declared.Link.{Link}
-use Rattle.head_anchor.specs.declared.AnchorSlot.{AnchorSlot}
 use Rattle.head_anchor.specs.declared.ReadAnchor.{ReadAnchor}
 use Rattle.head_attempt.specs.declared.ClaimAttempt.{ClaimAttempt}
 use Rattle.head_count.specs.declared.Epoch.{Epoch}
 use Rattle.head_attempt.specs.declared.HeadCompletion.{HeadCompletion}
 use Rattle.head_count.specs.declared.HeadStats.{HeadStats}
 use Rattle.head_current.specs.declared.CurrentHead.{CurrentHead}
-use Rattle.head_current.specs.declared.DeliverySlot.{DeliverySlot}
 use Rattle.head_current.specs.declared.HeadDelivery.{HeadDelivery}
-use Rattle.head_current.specs.declared.LastReport.{LastReport}
 use Rattle.head_current.specs.declared.UnsettledHead.{UnsettledHead}
 use Rattle.head_driver.specs.declared.Driver.{Driver}
 use Rattle.head_ready.specs.declared.Generation.{Generation}
-use Rattle.head_ready.specs.declared.GenerationSlot.{GenerationSlot}
 use Rattle.head_life.specs.declared.HeadLifecycle.{HeadLifecycle}
 use Rattle.head_call.specs.declared.Call.{Call}
 use Rattle.alike.proofs.Moves.{Move, step_move}
@@ -171,68 +168,68 @@ module _ (l : HeadLifecycle) (v : Ordered l) where
 -- an outcome is carried, or cold with a fault
 outcome_faulty : (link : Link) (skip : BalSkip) (carried : ℕ) → FromApply (settled_readiness (outcome link skip carried))
 unfolding outcome settled_readiness
-outcome_faulty link skip carried = by_if (λ o. FromApply (settled_readiness o)) (both (is_linked link) (is_read skip)) _ _ (λ e. tt) (λ e. e)
+outcome_faulty link skip carried = by_if (λ o. FromApply (settled_readiness o)) (is_linked link && is_read skip) _ _ (λ e. tt) (λ e. e)
 
 -- what becomes previous keeps its readiness
-previous_kept : (i : GenerationSlot) (o : CarryOutcome) → WhenGeneration i (λ g. FromApply g.readiness) → WhenGeneration (previous_after i o) (λ g. FromApply g.readiness)
+previous_kept : (i : Option Generation) (o : CarryOutcome) → WhenGeneration i (λ g. FromApply g.readiness) → WhenGeneration (previous_after i o) (λ g. FromApply g.readiness)
 unfolding previous_after
 previous_kept i (CarryOutcome.Carried n) f = f
 previous_kept i (CarryOutcome.Cold link skip) f = tt
 
 -- and is one number lower: only a linked head is carried
-carried_below : (g q : Generation) (o : CarryOutcome) → q.anchor.number + 1 ≡ g.anchor.number → Follows (GenerationSlot.Held g) (previous_after (GenerationSlot.Held q) o)
+carried_below : (g q : Generation) (o : CarryOutcome) → q.anchor.number + 1 ≡ g.anchor.number → Follows (Some g) (previous_after (Some q) o)
 unfolding previous_after
 carried_below g q (CarryOutcome.Carried n) e = e
 carried_below g q (CarryOutcome.Cold link skip) e = tt
 
-applied_below : (i : GenerationSlot) (g : Generation) (p : Hash) (skip : BalSkip) (carried : ℕ) → Follows (GenerationSlot.Held g) (previous_after i (apply_prepared (slot_anchor i) g.anchor p skip carried))
+applied_below : (i : Option Generation) (g : Generation) (p : Hash) (skip : BalSkip) (carried : ℕ) → Follows (Some g) (previous_after i (apply_prepared (slot_anchor i) g.anchor p skip carried))
 unfolding apply_prepared outcome classify_link slot_anchor follows
-applied_below GenerationSlot.Nothing g p skip carried = unfold previous_after is_linked in tt
-applied_below (GenerationSlot.Held q) g p skip carried =
-    by_if (λ k. Follows (GenerationSlot.Held g) (previous_after (GenerationSlot.Held q) (outcome k skip carried))) (eqb (q.anchor.number + 1) g.anchor.number) _ _
+applied_below None g p skip carried = unfold previous_after is_linked in tt
+applied_below (Some q) g p skip carried =
+    by_if (λ k. Follows (Some g) (previous_after (Some q) (outcome k skip carried))) (eqb (q.anchor.number + 1) g.anchor.number) _ _
     (λ e. carried_below g q _ (eqb-true _ _ e))
     (λ e. unfold previous_after is_linked in tt)
 
-pub nothing_held : {X : Type 0} {held : HeadDelivery} → DeliverySlot.Nothing ≡ DeliverySlot.Held held → X
+pub nothing_held : {X : Type 0} {held : HeadDelivery} → None ≡ Some held → X
 nothing_held p = let z : ◌≡◌ {A = ℕ} 0 1 = cc in absurd (omega arith)
 
-pub held_same : {x y : HeadDelivery} → DeliverySlot.Held x ≡ DeliverySlot.Held y → x ≡ y
+pub held_same : {x y : HeadDelivery} → Some x ≡ Some y → x ≡ y
 held_same p = cc
 
 -- An unsettled head that an apply settles: its delivery, the report given, an attempt ended settled.
-abbrev pub Settles : CurrentHead → HeadDelivery → LastReport → Type 0
+abbrev pub Settles : CurrentHead → HeadDelivery → Option DeltaReport → Type 0
 Settles c held r = (t : ClaimAttempt) × (c ≡ CurrentHead.Settled (settled_of held r t)) × (t.end ≡ HeadCompletion.Settled)
 
-unclaimed_settles : (u : UnsettledHead) (e : Epoch) (r : LastReport) (t : HeadCompletion) → u.attempt.end ≡ t → OpenOrAbandoned t → Settles (settled_head (CurrentHead.Unclaimed u) e r) u.delivery r
+unclaimed_settles : (u : UnsettledHead) (e : Epoch) (r : Option DeltaReport) (t : HeadCompletion) → u.attempt.end ≡ t → OpenOrAbandoned t → Settles (settled_head (CurrentHead.Unclaimed u) e r) u.delivery r
 unfolding settled_head abandonment publish first_end settled
 unclaimed_settles u e r HeadCompletion.Open q o = rw q (_, refl, refl)
 unclaimed_settles u e r HeadCompletion.Settled q o = absurd o
 unclaimed_settles u e r HeadCompletion.Superseded q o = absurd o
 unclaimed_settles u e r HeadCompletion.Abandoned q o = rw q (_, refl, refl)
 
-preparing_settles : (u : UnsettledHead) (e : Epoch) (r : LastReport) → u.attempt.end ≡ HeadCompletion.Open → Settles (settled_head (CurrentHead.Preparing u) e r) u.delivery r
+preparing_settles : (u : UnsettledHead) (e : Epoch) (r : Option DeltaReport) → u.attempt.end ≡ HeadCompletion.Open → Settles (settled_head (CurrentHead.Preparing u) e r) u.delivery r
 unfolding settled_head publish first_end
 preparing_settles u e r q = rw q (_, refl, refl)
 
 module _ (l : HeadLifecycle) (v : Ordered l) (held : HeadDelivery) (elsewhere : holds (slot_anchor l.installed) held.anchor ≡ false) where
-  pub head_settles : (c : CurrentHead) → l.current ≡ c → delivery c ≡ DeliverySlot.Held held → (e : Epoch) (r : LastReport) → Settles (settled_head c e r) held r
+  pub head_settles : (c : CurrentHead) → l.current ≡ c → delivery c ≡ Some held → (e : Epoch) (r : Option DeltaReport) → Settles (settled_head c e r) held r
   unfolding delivery minted
   head_settles CurrentHead.Absent q h e r = nothing_held h
   head_settles (CurrentHead.Unclaimed u) q h e r = subst (λ z. Settles (settled_head (CurrentHead.Unclaimed u) e r) z r) (held_same h) (unclaimed_settles u e r u.attempt.end refl (rw q at v.unclaimed_end))
   head_settles (CurrentHead.Preparing u) q h e r =
       let t : u.attempt ≡ minted l.claim_epoch = rw q at v.preparing_attempt in
       subst (λ z. Settles (settled_head (CurrentHead.Preparing u) e r) z r) (held_same h) (preparing_settles u e r (rw t refl))
-  head_settles (CurrentHead.Settled s) q h e r = true_false (same_holds _ _ ((rw q at v.settled_installed) ∙ ap (λ z. AnchorSlot.At z.anchor) (held_same h))) elsewhere
+  head_settles (CurrentHead.Settled s) q h e r = true_false (same_holds _ _ ((rw q at v.settled_installed) ∙ ap (λ z. Some z.anchor) (held_same h))) elsewhere
 
-  seq_held : (c : CurrentHead) → l.current ≡ c → delivery c ≡ DeliverySlot.Held held → held.seq ≡ l.seq
+  seq_held : (c : CurrentHead) → l.current ≡ c → delivery c ≡ Some held → held.seq ≡ l.seq
   seq_held c q h = rw (q, h) at v.seq_current
 
-  ordered_settled : (p : Hash) (skip : BalSkip) (carried handle report : ℕ) → delivery l.current ≡ DeliverySlot.Held held
+  ordered_settled : (p : Hash) (skip : BalSkip) (carried handle report : ℕ) → delivery l.current ≡ Some held
       → Ordered (settle l held.anchor (apply_prepared (slot_anchor l.installed) held.anchor p skip carried) handle report)
   unfolding settle delivery current_report
   ordered_settled p skip carried handle report h =
       let o = apply_prepared (slot_anchor l.installed) held.anchor p skip carried in
-      let s = head_settles l.current refl h (settling_epoch l.current l.claim_epoch) (LastReport.Made o report) in
+      let s = head_settles l.current refl h (settling_epoch l.current l.claim_epoch) (Some (report_of o report)) in
       let f : FromApply (settled_readiness o) = unfold apply_prepared in outcome_faulty (classify_link (slot_anchor l.installed) held.anchor p) skip carried in
       rw s.1 (record {
         seq_delivered = unfold raise in v.seq_delivered;

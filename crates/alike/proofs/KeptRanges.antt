@@ -1,10 +1,12 @@
 -- Every call that a line can write keeps the ranges: no number of a driver outgrows 64 bits.
+use Rattle.std.specs.Prelude.{Option, Some, ◌&&◌}
+use Rattle.head_ready.specs.declared.Generation.{Generation}
+use Rattle.head_current.specs.declared.DeltaReport.{DeltaReport}
 use Prim.Native.Nat.{ℕ}
 use mathlib.Core.Bool.{Bool}
 use mathlib.Core.Path.{◌≡◌, ◌∙◌}
 use lib.Dec.{lit<}
 use lib.ListN.{length-set}
-use Rattle.hash.specs.Logic.{both}
 use Rattle.head_anchor.specs.Anchors.{holds}
 use Rattle.head_anchor.specs.Links.{classify_link}
 use Rattle.head_anchor.specs.Lists.{apply_prepared, is_linked, is_read, outcome}
@@ -24,7 +26,6 @@ use Rattle.head_waits.specs.Calls.{put}
 use Rattle.hash.specs.declared.Hash.{Hash}
 use Rattle.head_anchor.specs.declared.BalSkip.{BalSkip}
 use Rattle.head_anchor.specs.declared.CarryOutcome.{CarryOutcome}
-use Rattle.head_anchor.specs.declared.AnchorSlot.{AnchorSlot}
 use Rattle.head_anchor.specs.declared.ReadAnchor.{ReadAnchor}
 use Rattle.head_count.specs.declared.Counter.{Counter}
 use Rattle.head_count.specs.declared.Epoch.{Epoch}
@@ -32,11 +33,8 @@ use Rattle.head_attempt.specs.declared.HeadCompletion.{HeadCompletion}
 use Rattle.head_count.specs.declared.HeadStats.{HeadStats}
 use Rattle.head_attempt.specs.declared.Waiter.{Waiter}
 use Rattle.head_current.specs.declared.CurrentHead.{CurrentHead}
-use Rattle.head_current.specs.declared.DeliverySlot.{DeliverySlot}
 use Rattle.head_current.specs.declared.HeadDelivery.{HeadDelivery}
-use Rattle.head_current.specs.declared.LastReport.{LastReport}
 use Rattle.head_driver.specs.declared.Driver.{Driver}
-use Rattle.head_ready.specs.declared.GenerationSlot.{GenerationSlot}
 use Rattle.head_life.specs.declared.HeadLifecycle.{HeadLifecycle}
 use Rattle.head_call.specs.declared.Call.{Call}
 use Rattle.alike.proofs.KeptOrder.{held_same, nothing_held}
@@ -50,6 +48,7 @@ use Rattle.hash.specs.Ranges.{Fits, HashFits}
 use Rattle.head_ready.specs.Ranges.{GenerationSlotFits, ReadinessFits}
 use Rattle.head_count.specs.Ranges.{StatsFit}
 use Rattle.head_call.specs.Ranges.{Writable}
+use Rattle.head_current.specs.Parts.{report_of}
 
 -- counters
 
@@ -77,7 +76,7 @@ new_head_fits : (here : Bool) (held : HeadDelivery) (cold : ℕ) → DeliveryFit
 unfolding new_head minted settled
 new_head_fits here held cold f g = by_if HeadFits here _ _ (λ e. record { delivery = f; report = tt; epoch = lit< tt }) (λ e. record { delivery = f; provisional = g; epoch = lit< tt })
 
-replaced_fits : (c : CurrentHead) (s : AnchorSlot) → HeadFits c → SlotFits s → SlotFits (replaced (delivery c) s)
+replaced_fits : (c : CurrentHead) (s : Option ReadAnchor) → HeadFits c → SlotFits s → SlotFits (replaced (delivery c) s)
 unfolding replaced delivery
 replaced_fits CurrentHead.Absent s f g = g
 replaced_fits (CurrentHead.Unclaimed u) s f g = f.delivery.anchor
@@ -100,7 +99,7 @@ released_fits (CurrentHead.Unclaimed u) f = f
 released_fits (CurrentHead.Preparing u) f = record { delivery = f.delivery; provisional = f.provisional; epoch = f.epoch }
 released_fits (CurrentHead.Settled s) f = f
 
-settled_fits : (c : CurrentHead) (e : Epoch) (r : LastReport) → HeadFits c → Fits e.0 → ReportFits r → HeadFits (settled_head c e r)
+settled_fits : (c : CurrentHead) (e : Epoch) (r : Option DeltaReport) → HeadFits c → Fits e.0 → ReportFits r → HeadFits (settled_head c e r)
 unfolding settled_head publish settled
 settled_fits CurrentHead.Absent e r f g h = f
 settled_fits (CurrentHead.Unclaimed u) e r f g h = by_if HeadFits (abandonment u) _ _ (λ z. record { delivery = f.delivery; report = h; epoch = g }) (λ z. record { delivery = f.delivery; report = h; epoch = f.epoch })
@@ -118,21 +117,21 @@ settling_fits (CurrentHead.Unclaimed u) e f = by_if (λ (x : Epoch). Fits x.0) (
 settling_fits (CurrentHead.Preparing u) e f = f
 settling_fits (CurrentHead.Settled s) e f = f
 
-pub outcome_fits : (i : AnchorSlot) (a : ReadAnchor) (p : Hash) (skip : BalSkip) (carried : ℕ) → SkipFits skip → Fits carried → OutcomeFits (apply_prepared i a p skip carried)
+pub outcome_fits : (i : Option ReadAnchor) (a : ReadAnchor) (p : Hash) (skip : BalSkip) (carried : ℕ) → SkipFits skip → Fits carried → OutcomeFits (apply_prepared i a p skip carried)
 unfolding apply_prepared outcome
-outcome_fits i a p skip carried f g = by_if OutcomeFits (both (is_linked (classify_link i a p)) (is_read skip)) _ _ (λ e. g) (λ e. f)
+outcome_fits i a p skip carried f g = by_if OutcomeFits (is_linked (classify_link i a p) && is_read skip) _ _ (λ e. g) (λ e. f)
 
 readiness_fits : (o : CarryOutcome) → OutcomeFits o → ReadinessFits (settled_readiness o)
 unfolding settled_readiness
 readiness_fits (CarryOutcome.Carried n) f = tt
 readiness_fits (CarryOutcome.Cold link skip) f = f
 
-previous_fits : (i : GenerationSlot) (o : CarryOutcome) → GenerationSlotFits i → GenerationSlotFits (previous_after i o)
+previous_fits : (i : Option Generation) (o : CarryOutcome) → GenerationSlotFits i → GenerationSlotFits (previous_after i o)
 unfolding previous_after
 previous_fits i (CarryOutcome.Carried n) f = f
 previous_fits i (CarryOutcome.Cold link skip) f = tt
 
-pub held_fits : (c : CurrentHead) (held : HeadDelivery) → delivery c ≡ DeliverySlot.Held held → HeadFits c → DeliveryFits held
+pub held_fits : (c : CurrentHead) (held : HeadDelivery) → delivery c ≡ Some held → HeadFits c → DeliveryFits held
 unfolding delivery
 held_fits CurrentHead.Absent held q f = nothing_held q
 held_fits (CurrentHead.Unclaimed u) held q f = rw (held_same q) at f.delivery
@@ -175,7 +174,7 @@ module _ (l : HeadLifecycle) (f : LifeFits l) where
   settled_life_fits a o handle report x y h r =
       let e = settling_fits l.current l.claim_epoch f.epoch in
       record {
-        current = settled_fits l.current _ (LastReport.Made o report) f.current e (y, r);
+        current = settled_fits l.current _ (Some (report_of o report)) f.current e (y, r);
         superseded = f.superseded;
         installed = record { anchor = x; handle = h; readiness = readiness_fits o y };
         previous = previous_fits l.installed o f.installed;

@@ -1,4 +1,8 @@
 -- What a call may do to a driver. The calls' tests are gone through here once; what every call keeps is then shown for each of these moves.
+use Rattle.std.specs.Prelude.{Option, None, Some, Result}
+use Rattle.head_count.specs.declared.Seq.{Seq}
+use Rattle.head_count.specs.declared.Epoch.{Epoch}
+use Rattle.head_ready.specs.declared.HeadOutcome.{HeadOutcome}
 use Prim.Native.Nat.{ℕ}
 use mathlib.Core.Bool.{true, false}
 use mathlib.Core.Path.{◌≡◌, refl}
@@ -33,22 +37,18 @@ use Rattle.head_step.specs.Steps.{step}
 use Rattle.head_waits.specs.Calls.{join, preparing_at, put, resume, resume_as, viewed_by, wait, wait_as}
 use Rattle.hash.specs.declared.Hash.{Hash}
 use Rattle.head_anchor.specs.declared.PreparedBal.{PreparedBal}
-use Rattle.head_anchor.specs.declared.AnchorSlot.{AnchorSlot}
 use Rattle.head_anchor.specs.declared.ReadAnchor.{ReadAnchor}
 use Rattle.head_count.specs.declared.Counter.{Counter}
 use Rattle.head_attempt.specs.declared.HeadCompletion.{HeadCompletion}
 use Rattle.head_attempt.specs.declared.Waiter.{Waiter}
 use Rattle.head_current.specs.declared.CurrentHead.{CurrentHead}
-use Rattle.head_current.specs.declared.DeliverySlot.{DeliverySlot}
 use Rattle.head_current.specs.declared.HeadDelivery.{HeadDelivery}
 use Rattle.head_current.specs.declared.HeadTicket.{HeadTicket}
 use Rattle.head_current.specs.declared.PrepareClaim.{PrepareClaim}
-use Rattle.head_deliver.specs.declared.head_lifecycle.Repeat.{Repeat}
 use Rattle.head_current.specs.declared.UnsettledHead.{UnsettledHead}
 use Rattle.head_driver.specs.declared.Driver.{Driver}
 use Rattle.head_driver.specs.declared.Reply.{Reply}
 use Rattle.head_plan.specs.declared.head_lifecycle.ApplyPlan.{ApplyPlan}
-use Rattle.head_claim.specs.declared.head_lifecycle.ClaimStart.{ClaimStart}
 use Rattle.head_ready.specs.declared.HeadView.{HeadView}
 use Rattle.head_call.specs.declared.Call.{Call}
 use Rattle.alike.proofs.Tests.{by_if, true_false}
@@ -62,7 +62,7 @@ pub data Move (d : Driver) : Call → Driver → Type 0 where
   delivers : (a : ReadAnchor) (p : Hash) (cold : ℕ) → Move d (Call.Deliver a p cold) (ending_with d (delivered d.life a p cold) HeadCompletion.Superseded)
   claims : {c : Call} (u : UnsettledHead) → d.life.current ≡ CurrentHead.Unclaimed u → Move d c (with_life d (claimed d.life (next_epoch d.life.claim_epoch)))
   releases : {c : Call} (u : UnsettledHead) → d.life.current ≡ CurrentHead.Preparing u → Move d c (ending_with d (released d.life) HeadCompletion.Abandoned)
-  settles : (ticket : HeadTicket) (list : PreparedBal) (handle carried report : ℕ) (held : HeadDelivery) → delivery d.life.current ≡ DeliverySlot.Held held → holds (slot_anchor d.life.installed) held.anchor ≡ false
+  settles : (ticket : HeadTicket) (list : PreparedBal) (handle carried report : ℕ) (held : HeadDelivery) → delivery d.life.current ≡ Some held → holds (slot_anchor d.life.installed) held.anchor ≡ false
       → Move d (Call.Apply ticket list handle carried report) (ending_with d (settle d.life held.anchor (apply_prepared (slot_anchor d.life.installed) held.anchor held.parent_hash list.skip carried) handle report) HeadCompletion.Settled)
 
 -- a property of the driver that a reply leaves
@@ -96,7 +96,7 @@ module _ (d : Driver) (c : Call) where
   resume_move (Waiter.Abandoned b) n spare = viewed_by_move n _ _
   resume_move (Waiter.Ended b) n spare = join_move n b spare
 
-  gate_move : (installed : AnchorSlot) (held : HeadDelivery) (ticket : HeadTicket) (next : ClaimStart) → Leaves d c (claim_as d next) → Leaves d c (claim_as d (claim_gate installed held ticket next))
+  gate_move : (installed : Option ReadAnchor) (held : HeadDelivery) (ticket : HeadTicket) (next : Result Epoch HeadOutcome) → Leaves d c (claim_as d next) → Leaves d c (claim_as d (claim_gate installed held ticket next))
   unfolding claim_gate claim_as
   gate_move installed held ticket next m = by_if (λ s. Leaves d c (claim_as d s)) (ticket_of held ticket) _ _
       (λ e. by_if (λ s. Leaves d c (claim_as d s)) (holds installed ticket.anchor) _ _ (λ e. none) (λ e. m))
@@ -121,19 +121,19 @@ module _ (d : Driver) (c : Call) where
   release_move owner = by_if (Leaves d c) (owned_by d.life.current owner) _ _ (λ e. released_move d.life.current owner refl e) (λ e. none)
 
 -- a delivery of what is current repeats it; any other replaces it
-deliver_move : (d : Driver) (a : ReadAnchor) (p : Hash) (cold : ℕ) (r : Repeat) → Leaves d (Call.Deliver a p cold) (deliver_as d a p cold r)
+deliver_move : (d : Driver) (a : ReadAnchor) (p : Hash) (cold : ℕ) (r : Option Seq) → Leaves d (Call.Deliver a p cold) (deliver_as d a p cold r)
 unfolding deliver_as raise
-deliver_move d a p cold Repeat.New = delivers a p cold
-deliver_move d a p cold (Repeat.Of n) = counts Counter.Repeated refl
+deliver_move d a p cold None = delivers a p cold
+deliver_move d a p cold (Some n) = counts Counter.Repeated refl
 
 module _ (d : Driver) (ticket : HeadTicket) (list : PreparedBal) (handle carried report : ℕ) where
   abbrev Applies : ApplyPlan → Type 0
   Applies plan = Leaves d (Call.Apply ticket list handle carried report) (apply_as d list.skip handle carried report plan)
 
-  plan_move : (slot : DeliverySlot) → delivery d.life.current ≡ slot → Applies (plan_at (slot_anchor d.life.installed) slot ticket list.anchor)
+  plan_move : (slot : Option HeadDelivery) → delivery d.life.current ≡ slot → Applies (plan_at (slot_anchor d.life.installed) slot ticket list.anchor)
   unfolding apply_as plan_held settle_as raise
-  plan_move DeliverySlot.Nothing q = counts Counter.Discarded refl
-  plan_move (DeliverySlot.Held held) q = by_if Applies (ticket_of held ticket) _ _
+  plan_move None q = counts Counter.Discarded refl
+  plan_move (Some held) q = by_if Applies (ticket_of held ticket) _ _
       (λ e. by_if Applies (same_anchor list.anchor held.anchor) _ _
       (λ e. by_if Applies (holds (slot_anchor d.life.installed) held.anchor) _ _ (λ e. none) (λ e. settles ticket list handle carried report held q e))
       (λ e. counts Counter.Discarded refl))

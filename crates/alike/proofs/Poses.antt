@@ -1,4 +1,6 @@
 -- The parts of a driver that the probes ask for, each read off every head.
+use Rattle.std.specs.Prelude.{Option, None, Some}
+use Rattle.head_current.specs.declared.DeltaReport.{DeltaReport}
 use Prim.Native.Nat.{ℕ}
 use mathlib.Core.Bool.{false}
 use mathlib.Core.Path.{◌≡◌, refl, sym, ap, ◌∙◌, subst}
@@ -13,20 +15,15 @@ use Rattle.head_deliver.specs.Delivered.{delivery_of}
 use Rattle.head_ready.specs.Generations.{slot_anchor}
 use Rattle.head_ready.specs.Refusals.{refused_13, refused_14}
 use Rattle.hash.specs.declared.Hash.{Hash}
-use Rattle.head_anchor.specs.declared.AnchorSlot.{AnchorSlot}
-use Rattle.head_anchor.specs.declared.BlockHash.{BlockHash}
 use Rattle.head_anchor.specs.declared.ReadAnchor.{ReadAnchor}
 use Rattle.head_attempt.specs.declared.ClaimAttempt.{ClaimAttempt}
 use Rattle.head_count.specs.declared.Epoch.{Epoch}
 use Rattle.head_current.specs.declared.CurrentHead.{CurrentHead}
-use Rattle.head_current.specs.declared.DeliverySlot.{DeliverySlot}
 use Rattle.head_current.specs.declared.HeadDelivery.{HeadDelivery}
-use Rattle.head_current.specs.declared.LastReport.{LastReport}
 use Rattle.head_current.specs.declared.UnsettledHead.{UnsettledHead}
 use Rattle.head_driver.specs.declared.Answer.{Answer}
 use Rattle.head_driver.specs.declared.Driver.{Driver}
 use Rattle.head_ready.specs.declared.Generation.{Generation}
-use Rattle.head_ready.specs.declared.GenerationSlot.{GenerationSlot}
 use Rattle.head_life.specs.declared.HeadLifecycle.{HeadLifecycle}
 use Rattle.alike.proofs.Alike.{SameHead, unsettled_at}
 use Rattle.alike.proofs.KeptRanges.{held_fits}
@@ -36,13 +33,13 @@ use Rattle.head_anchor.specs.Ranges.{AnchorFits}
 use Rattle.head_ready.specs.Ranges.{GenerationSlotFits}
 use Rattle.head_current.specs.Ranges.{HeadFits}
 
-abbrev pub current_anchor : Driver → AnchorSlot
+abbrev pub current_anchor : Driver → Option ReadAnchor
 current_anchor d = anchor_of (delivery d.life.current)
 
-abbrev pub installed_anchor : Driver → AnchorSlot
+abbrev pub installed_anchor : Driver → Option ReadAnchor
 installed_anchor d = slot_anchor d.life.installed
 
-abbrev pub previous_anchor : Driver → AnchorSlot
+abbrev pub previous_anchor : Driver → Option ReadAnchor
 previous_anchor d = slot_anchor d.life.previous
 
 -- what the current head is
@@ -67,9 +64,9 @@ by_pose Pose.Unclaimed f g = f tt
 by_pose Pose.Preparing f g = f tt
 by_pose Pose.Settled f g = g (λ b. b)
 
-abbrev pub parent_of : DeliverySlot → Hash
-parent_of DeliverySlot.Nothing = record { w0 = 0; w1 = 0; w2 = 0; w3 = 0 }
-parent_of (DeliverySlot.Held held) = held.parent_hash
+abbrev pub parent_of : Option HeadDelivery → Hash
+parent_of None = record { w0 = 0; w1 = 0; w2 = 0; w3 = 0 }
+parent_of (Some held) = held.parent_hash
 
 abbrev pub provisional_of : CurrentHead → ℕ
 provisional_of CurrentHead.Absent = 0
@@ -86,9 +83,9 @@ claim_answer (CurrentHead.Settled s) e = Answer.Outcome refused_13
 
 -- A head is made of these parts, and of its delivery and attempt.
 
-abbrev pub held_of : DeliverySlot → HeadDelivery
-held_of DeliverySlot.Nothing = delivery_of (record { number = 0; hash = BlockHash.Unknown }) (record { w0 = 0; w1 = 0; w2 = 0; w3 = 0 }) (seq_of 0)
-held_of (DeliverySlot.Held held) = held
+abbrev pub held_of : Option HeadDelivery → HeadDelivery
+held_of None = delivery_of (record { number = 0; hash = None }) (record { w0 = 0; w1 = 0; w2 = 0; w3 = 0 }) (seq_of 0)
+held_of (Some held) = held
 
 abbrev pub attempt_of : CurrentHead → ClaimAttempt
 attempt_of CurrentHead.Absent = minted (epoch_of 0)
@@ -96,7 +93,7 @@ attempt_of (CurrentHead.Unclaimed u) = u.attempt
 attempt_of (CurrentHead.Preparing u) = u.attempt
 attempt_of (CurrentHead.Settled s) = s.attempt
 
-abbrev rebuild : Pose → HeadDelivery → ℕ → ClaimAttempt → LastReport → CurrentHead
+abbrev rebuild : Pose → HeadDelivery → ℕ → ClaimAttempt → Option DeltaReport → CurrentHead
 rebuild Pose.Absent held h t r = CurrentHead.Absent
 rebuild Pose.Unclaimed held h t r = CurrentHead.Unclaimed (record { delivery = held; provisional = h; attempt = t })
 rebuild Pose.Preparing held h t r = CurrentHead.Preparing (record { delivery = held; provisional = h; attempt = t })
@@ -109,7 +106,7 @@ rebuilt (CurrentHead.Unclaimed u) = refl
 rebuilt (CurrentHead.Preparing u) = refl
 rebuilt (CurrentHead.Settled s) = refl
 
-same_rebuilt : (k : Pose) (held : HeadDelivery) (h : ℕ) (t z : ClaimAttempt) (r : LastReport) → t.end ≡ z.end → (k ≡ Pose.Preparing → t ≡ z) → SameHead (rebuild k held h t r) (rebuild k held h z r)
+same_rebuilt : (k : Pose) (held : HeadDelivery) (h : ℕ) (t z : ClaimAttempt) (r : Option DeltaReport) → t.end ≡ z.end → (k ≡ Pose.Preparing → t ≡ z) → SameHead (rebuild k held h t r) (rebuild k held h z r)
 same_rebuilt Pose.Absent held h t z r q e = SameHead.both_absent
 same_rebuilt Pose.Unclaimed held h t z r q e = rw q (SameHead.both_unclaimed held h t.epoch z.epoch z.end)
 same_rebuilt Pose.Preparing held h t z r q e = rw (e refl) (SameHead.both_preparing _)
@@ -134,12 +131,12 @@ published_end (CurrentHead.Settled s) = refl
 
 -- Facts of the parts.
 
-pub held_at : (s : DeliverySlot) (a : ReadAnchor) → anchor_of s ≡ AnchorSlot.At a → (held : HeadDelivery) × (s ≡ DeliverySlot.Held held) × (held.anchor ≡ a)
+pub held_at : (s : Option HeadDelivery) (a : ReadAnchor) → anchor_of s ≡ Some a → (held : HeadDelivery) × (s ≡ Some held) × (held.anchor ≡ a)
 unfolding anchor_of
-held_at DeliverySlot.Nothing a e = nothing_at e
-held_at (DeliverySlot.Held held) a e = (held, refl, at_same e)
+held_at None a e = nothing_at e
+held_at (Some held) a e = (held, refl, at_same e)
 
-pub absent_of : (c : CurrentHead) → anchor_of (delivery c) ≡ AnchorSlot.Nothing → c ≡ CurrentHead.Absent
+pub absent_of : (c : CurrentHead) → anchor_of (delivery c) ≡ None → c ≡ CurrentHead.Absent
 unfolding anchor_of delivery
 absent_of CurrentHead.Absent e = refl
 absent_of (CurrentHead.Unclaimed u) e = nothing_at (sym e)
@@ -164,39 +161,39 @@ settled_not_at (CurrentHead.Unclaimed u) a n = absurd (n tt)
 settled_not_at (CurrentHead.Preparing u) a n = absurd (n tt)
 settled_not_at (CurrentHead.Settled s) a n = refl
 
-pub settled_pose : (c : CurrentHead) (a : ReadAnchor) → (Unsettled (pose c) → ⊥) → anchor_of (delivery c) ≡ AnchorSlot.At a → pose c ≡ Pose.Settled
+pub settled_pose : (c : CurrentHead) (a : ReadAnchor) → (Unsettled (pose c) → ⊥) → anchor_of (delivery c) ≡ Some a → pose c ≡ Pose.Settled
 unfolding anchor_of delivery
 settled_pose CurrentHead.Absent a n e = nothing_at e
 settled_pose (CurrentHead.Unclaimed u) a n e = absurd (n tt)
 settled_pose (CurrentHead.Preparing u) a n e = absurd (n tt)
 settled_pose (CurrentHead.Settled s) a n e = refl
 
-pub head_fits : (c : CurrentHead) (a : ReadAnchor) → HeadFits c → anchor_of (delivery c) ≡ AnchorSlot.At a → AnchorFits a
+pub head_fits : (c : CurrentHead) (a : ReadAnchor) → HeadFits c → anchor_of (delivery c) ≡ Some a → AnchorFits a
 head_fits c a f e = let h = held_at (delivery c) a e in rw h.2 at (held_fits c h.0 h.1 f).anchor
 
-pub generation_fits : (g : GenerationSlot) (a : ReadAnchor) → GenerationSlotFits g → slot_anchor g ≡ AnchorSlot.At a → AnchorFits a
+pub generation_fits : (g : Option Generation) (a : ReadAnchor) → GenerationSlotFits g → slot_anchor g ≡ Some a → AnchorFits a
 unfolding slot_anchor
-generation_fits GenerationSlot.Nothing a f e = nothing_at e
-generation_fits (GenerationSlot.Held g) a f e = rw (at_same e) at f.anchor
+generation_fits None a f e = nothing_at e
+generation_fits (Some g) a f e = rw (at_same e) at f.anchor
 
 -- the previous generation is not at the installed anchor
-pub previous_elsewhere : (i p : GenerationSlot) → Follows i p → (g : Generation) (a : ReadAnchor) → p ≡ GenerationSlot.Held g → g.anchor ≡ a → holds (slot_anchor i) a ≡ false
+pub previous_elsewhere : (i p : Option Generation) → Follows i p → (g : Generation) (a : ReadAnchor) → p ≡ Some g → g.anchor ≡ a → holds (slot_anchor i) a ≡ false
 unfolding slot_anchor holds
-previous_elsewhere GenerationSlot.Nothing p x g a e q = refl
-previous_elsewhere (GenerationSlot.Held i) p x g a e q = is_false _ (λ t.
+previous_elsewhere None p x g a e q = refl
+previous_elsewhere (Some i) p x g a e q = is_false _ (λ t.
     let z = rw e at x in
     omega (arith, z, ap (λ b. b.number) (same_anchor_lem _ _ t), ap (λ b. b.number) q))
 
-pub previous_empty : (i p : GenerationSlot) → Follows i p → slot_anchor i ≡ AnchorSlot.Nothing → p ≡ GenerationSlot.Nothing
+pub previous_empty : (i p : Option Generation) → Follows i p → slot_anchor i ≡ None → p ≡ None
 unfolding slot_anchor
-previous_empty i GenerationSlot.Nothing x e = refl
-previous_empty GenerationSlot.Nothing (GenerationSlot.Held g) x e = absurd x
-previous_empty (GenerationSlot.Held i) (GenerationSlot.Held g) x e = nothing_at (sym e)
+previous_empty i None x e = refl
+previous_empty None (Some g) x e = absurd x
+previous_empty (Some i) (Some g) x e = nothing_at (sym e)
 
 -- Where the heads of a driver that keeps the rules stand.
 module _ (l : HeadLifecycle) (v : Ordered l) where
   -- an unsettled head is not installed
-  pub not_installed : (c : CurrentHead) → l.current ≡ c → Unsettled (pose c) → (a : ReadAnchor) → anchor_of (delivery c) ≡ AnchorSlot.At a → holds (slot_anchor l.installed) a ≡ false
+  pub not_installed : (c : CurrentHead) → l.current ≡ c → Unsettled (pose c) → (a : ReadAnchor) → anchor_of (delivery c) ≡ Some a → holds (slot_anchor l.installed) a ≡ false
   unfolding anchor_of delivery
   not_installed CurrentHead.Absent q u a e = absurd u
   not_installed (CurrentHead.Unclaimed x) q u a e = rw (at_same e) at (rw q at v.unsettled_elsewhere)

@@ -1,9 +1,9 @@
 -- Probes of one call: twins agree in the part that the call's answer tells.
+use Rattle.std.specs.Prelude.{Option, None, Some, cond}
 use Prim.Native.Nat.{◌<◌}
 use mathlib.Core.Path.{◌≡◌, refl, sym, ap, ◌∙◌}
 use lib.Dec.{lit<}
 use Rattle.hash.specs.Hashes.{same_hash}
-use Rattle.hash.specs.Logic.{if}
 use Rattle.head_attempt.specs.Attempts.{minted}
 use Rattle.head_count.specs.Counters.{next_seq, seq_of, up}
 use Rattle.head_current.specs.Heads.{delivery}
@@ -16,7 +16,6 @@ use Rattle.head_heads.specs.Heads.{heads}
 use Rattle.head_step.specs.Dispatch.{dispatch}
 use Rattle.head_view.specs.Views.{view_of}
 use Rattle.hash.specs.declared.Hash.{Hash}
-use Rattle.head_anchor.specs.declared.AnchorSlot.{AnchorSlot}
 use Rattle.head_anchor.specs.declared.ReadAnchor.{ReadAnchor}
 use Rattle.head_count.specs.declared.Epoch.{Epoch}
 use Rattle.head_count.specs.declared.Seq.{Seq}
@@ -24,7 +23,6 @@ use Rattle.head_current.specs.declared.CurrentHead.{CurrentHead}
 use Rattle.head_driver.specs.declared.Answer.{Answer}
 use Rattle.head_driver.specs.declared.Driver.{Driver}
 use Rattle.head_ready.specs.declared.Generation.{Generation}
-use Rattle.head_ready.specs.declared.GenerationSlot.{GenerationSlot}
 use Rattle.head_ready.specs.declared.HeadCold.{HeadCold}
 use Rattle.head_ready.specs.declared.HeadReadiness.{HeadReadiness}
 use Rattle.head_ready.specs.declared.Source.{Source}
@@ -61,21 +59,21 @@ claim_pose (CurrentHead.Settled x) (CurrentHead.Preparing y) e₁ e₂ q = cc
 claim_pose (CurrentHead.Settled x) (CurrentHead.Settled y) e₁ e₂ q = refl
 
 -- two slots with one anchor, that show the same at it
-pub same_generation : (s : Source) (i₁ i₂ : GenerationSlot) → slot_anchor i₁ ≡ slot_anchor i₂
-    → ((g₁ g₂ : Generation) → i₁ ≡ GenerationSlot.Held g₁ → i₂ ≡ GenerationSlot.Held g₂ → g₂.anchor ≡ g₁.anchor → Answer.View (view_of s g₁.handle g₁.readiness) ≡ Answer.View (view_of s g₂.handle g₂.readiness))
+pub same_generation : (s : Source) (i₁ i₂ : Option Generation) → slot_anchor i₁ ≡ slot_anchor i₂
+    → ((g₁ g₂ : Generation) → i₁ ≡ Some g₁ → i₂ ≡ Some g₂ → g₂.anchor ≡ g₁.anchor → Answer.View (view_of s g₁.handle g₁.readiness) ≡ Answer.View (view_of s g₂.handle g₂.readiness))
     → i₁ ≡ i₂
 unfolding slot_anchor
-same_generation s GenerationSlot.Nothing GenerationSlot.Nothing e f = refl
-same_generation s GenerationSlot.Nothing (GenerationSlot.Held g₂) e f = nothing_at e
-same_generation s (GenerationSlot.Held g₁) GenerationSlot.Nothing e f = nothing_at (sym e)
-same_generation s (GenerationSlot.Held g₁) (GenerationSlot.Held g₂) e f =
+same_generation s None None e f = refl
+same_generation s None (Some g₂) e f = nothing_at e
+same_generation s (Some g₁) None e f = nothing_at (sym e)
+same_generation s (Some g₁) (Some g₂) e f =
     let q = f g₁ g₂ refl refl (sym (at_same e)) in
     let v : view_of s g₁.handle g₁.readiness ≡ view_of s g₂.handle g₂.readiness = cc in
     let a = at_same e in
-    λ j. GenerationSlot.Held (record { anchor = a j; handle = (v j).handle; readiness = (v j).readiness })
+    λ j. Some (record { anchor = a j; handle = (v j).handle; readiness = (v j).readiness })
 
 -- the old ticket is not the next one
-same_parent : (p x : Hash) (m n : Seq) → m ≡ n → m.0 < 0xffff_ffff_ffff_ffff → Answer.Ticket (if (same_hash p p) m (next_seq m)) ≡ Answer.Ticket (if (same_hash x p) n (next_seq n)) → p ≡ x
+same_parent : (p x : Hash) (m n : Seq) → m ≡ n → m.0 < 0xffff_ffff_ffff_ffff → Answer.Ticket (cond (same_hash p p) m (next_seq m)) ≡ Answer.Ticket (cond (same_hash x p) n (next_seq n)) → p ≡ x
 unfolding next_seq
 same_parent p x m n e b q = by_test (same_hash x p)
     (λ t. sym (same_hash_lem x p t))
@@ -122,8 +120,8 @@ module _ {d₁ d₂ : Driver} (w : Twin d₁ d₂) where
       ∙ snapshot_installed d₂ v₂ g₂ g₁.anchor 0 q e)
 
   -- Where there is a head, at its anchor.
-  module _ (a : ReadAnchor) (e : current_anchor d₁ ≡ AnchorSlot.At a) where
-    pub twin_anchor : current_anchor d₂ ≡ AnchorSlot.At a
+  module _ (a : ReadAnchor) (e : current_anchor d₁ ≡ Some a) where
+    pub twin_anchor : current_anchor d₂ ≡ Some a
     twin_anchor = sym probe_anchors.0 ∙ e
 
     pub anchor_fits : AnchorFits a
@@ -136,11 +134,11 @@ module _ {d₁ d₂ : Driver} (w : Twin d₁ d₂) where
         ∙ rw probe_seq (claim_answers d₂ v₂ _ refl a twin_anchor)
 
   -- a part of the head: with no head there is but one
-  part_at : {A : Type 0} (f : CurrentHead → A) → ((a : ReadAnchor) → current_anchor d₁ ≡ AnchorSlot.At a → f c₁ ≡ f c₂) → (s : AnchorSlot) → current_anchor d₁ ≡ s → f c₁ ≡ f c₂
-  part_at f g AnchorSlot.Nothing e = ap f (absent_of c₁ e ∙ sym (absent_of c₂ (sym probe_anchors.0 ∙ e)))
-  part_at f g (AnchorSlot.At a) e = g a e
+  part_at : {A : Type 0} (f : CurrentHead → A) → ((a : ReadAnchor) → current_anchor d₁ ≡ Some a → f c₁ ≡ f c₂) → (s : Option ReadAnchor) → current_anchor d₁ ≡ s → f c₁ ≡ f c₂
+  part_at f g None e = ap f (absent_of c₁ e ∙ sym (absent_of c₂ (sym probe_anchors.0 ∙ e)))
+  part_at f g (Some a) e = g a e
 
-  part : {A : Type 0} (f : CurrentHead → A) → ((a : ReadAnchor) → current_anchor d₁ ≡ AnchorSlot.At a → f c₁ ≡ f c₂) → f c₁ ≡ f c₂
+  part : {A : Type 0} (f : CurrentHead → A) → ((a : ReadAnchor) → current_anchor d₁ ≡ Some a → f c₁ ≡ f c₂) → f c₁ ≡ f c₂
   part f g = part_at f g (current_anchor d₁) refl
 
   pub probe_pose : pose c₁ ≡ pose c₂

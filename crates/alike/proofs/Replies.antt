@@ -1,9 +1,9 @@
 -- What one call answers of a driver: one-sided, each a function of the part that it asks for.
+use Rattle.std.specs.Prelude.{Option, None, Some, cond}
 use Prim.Native.Nat.{ℕ}
 use mathlib.Core.Bool.{true, false}
 use mathlib.Core.Path.{◌≡◌, refl, ap, ◌∙◌}
 use Rattle.hash.specs.Hashes.{same_hash}
-use Rattle.hash.specs.Logic.{if}
 use Rattle.head_anchor.specs.Anchors.{holds}
 use Rattle.head_count.specs.Counters.{next_seq, same_seq}
 use Rattle.head_current.specs.Heads.{anchor_of, delivery, ticket_of}
@@ -17,16 +17,13 @@ use Rattle.head_ready.specs.Generations.{slot_anchor}
 use Rattle.head_completion.specs.Completion.{completion}
 use Rattle.head_view.specs.Views.{current_view, generation_view, provisional_view, spare_view, view, view_of}
 use Rattle.hash.specs.declared.Hash.{Hash}
-use Rattle.head_anchor.specs.declared.AnchorSlot.{AnchorSlot}
 use Rattle.head_anchor.specs.declared.ReadAnchor.{ReadAnchor}
 use Rattle.head_count.specs.declared.Seq.{Seq}
 use Rattle.head_current.specs.declared.CurrentHead.{CurrentHead}
-use Rattle.head_current.specs.declared.DeliverySlot.{DeliverySlot}
 use Rattle.head_current.specs.declared.HeadDelivery.{HeadDelivery}
 use Rattle.head_driver.specs.declared.Answer.{Answer}
 use Rattle.head_driver.specs.declared.Driver.{Driver}
 use Rattle.head_ready.specs.declared.Generation.{Generation}
-use Rattle.head_ready.specs.declared.GenerationSlot.{GenerationSlot}
 use Rattle.head_ready.specs.declared.HeadCold.{HeadCold}
 use Rattle.head_life.specs.declared.HeadLifecycle.{HeadLifecycle}
 use Rattle.head_ready.specs.declared.HeadReadiness.{HeadReadiness}
@@ -43,16 +40,16 @@ ticket_ok held a n p q = rw (p, q, anchor_same a a refl, eqb_same) refl
 
 -- the four views
 
-view_here : (k : Source) (g : Generation) (a : ReadAnchor) (o : HeadView) → g.anchor ≡ a → generation_view k (GenerationSlot.Held g) a o ≡ view_of k g.handle g.readiness
+view_here : (k : Source) (g : Generation) (a : ReadAnchor) (o : HeadView) → g.anchor ≡ a → generation_view k (Some g) a o ≡ view_of k g.handle g.readiness
 unfolding generation_view
 view_here k g a o e = rw (anchor_same _ _ e) refl
 
-view_pass : (k : Source) (s : GenerationSlot) (a : ReadAnchor) (o : HeadView) → holds (slot_anchor s) a ≡ false → generation_view k s a o ≡ o
+view_pass : (k : Source) (s : Option Generation) (a : ReadAnchor) (o : HeadView) → holds (slot_anchor s) a ≡ false → generation_view k s a o ≡ o
 unfolding generation_view slot_anchor holds
-view_pass k GenerationSlot.Nothing a o e = refl
-view_pass k (GenerationSlot.Held g) a o e = rw e refl
+view_pass k None a o e = refl
+view_pass k (Some g) a o e = rw e refl
 
-current_here : (c : CurrentHead) (a : ReadAnchor) (o : HeadView) → Unsettled (pose c) → anchor_of (delivery c) ≡ AnchorSlot.At a → current_view c a o ≡ view_of Source.Provisional (provisional_of c) (HeadReadiness.Cold HeadCold.Unprepared)
+current_here : (c : CurrentHead) (a : ReadAnchor) (o : HeadView) → Unsettled (pose c) → anchor_of (delivery c) ≡ Some a → current_view c a o ≡ view_of Source.Provisional (provisional_of c) (HeadReadiness.Cold HeadCold.Unprepared)
 unfolding current_view provisional_view anchor_of delivery
 current_here CurrentHead.Absent a o u e = absurd u
 current_here (CurrentHead.Unclaimed x) a o u e = rw (anchor_same _ _ (at_same e)) refl
@@ -67,15 +64,15 @@ current_pass (CurrentHead.Preparing x) a o e = rw e refl
 current_pass (CurrentHead.Settled x) a o e = refl
 
 module _ (l : HeadLifecycle) (a : ReadAnchor) (spare : ℕ) where
-  view_installed : (g : Generation) → l.installed ≡ GenerationSlot.Held g → g.anchor ≡ a → view l a spare ≡ view_of Source.Installed g.handle g.readiness
+  view_installed : (g : Generation) → l.installed ≡ Some g → g.anchor ≡ a → view l a spare ≡ view_of Source.Installed g.handle g.readiness
   unfolding view
   view_installed g e p = rw e (view_here _ g a _ p)
 
-  pub view_current : Unsettled (pose l.current) → anchor_of (delivery l.current) ≡ AnchorSlot.At a → holds (slot_anchor l.installed) a ≡ false → view l a spare ≡ view_of Source.Provisional (provisional_of l.current) (HeadReadiness.Cold HeadCold.Unprepared)
+  pub view_current : Unsettled (pose l.current) → anchor_of (delivery l.current) ≡ Some a → holds (slot_anchor l.installed) a ≡ false → view l a spare ≡ view_of Source.Provisional (provisional_of l.current) (HeadReadiness.Cold HeadCold.Unprepared)
   unfolding view
   view_current u e o = view_pass _ l.installed a _ o ∙ current_here l.current a _ u e
 
-  view_previous : (g : Generation) → holds (slot_anchor l.installed) a ≡ false → unsettled_at l.current a ≡ false → l.previous ≡ GenerationSlot.Held g → g.anchor ≡ a → view l a spare ≡ view_of Source.Previous g.handle g.readiness
+  view_previous : (g : Generation) → holds (slot_anchor l.installed) a ≡ false → unsettled_at l.current a ≡ false → l.previous ≡ Some g → g.anchor ≡ a → view l a spare ≡ view_of Source.Previous g.handle g.readiness
   unfolding view
   view_previous g x y e p = view_pass _ l.installed a _ x ∙ current_pass l.current a _ y ∙ rw e (view_here _ g a _ p)
 
@@ -85,7 +82,7 @@ module _ (l : HeadLifecycle) (a : ReadAnchor) (spare : ℕ) where
 
 module _ (d : Driver) (v : Ordered d.life) where
   -- a claim under the current ticket tells the pose, and of an unclaimed head the epoch
-  pub claim_answers : (c : CurrentHead) → d.life.current ≡ c → (a : ReadAnchor) → anchor_of (delivery c) ≡ AnchorSlot.At a → (claim d (record { anchor = a; seq = d.life.seq })).answer ≡ claim_answer c d.life.claim_epoch
+  pub claim_answers : (c : CurrentHead) → d.life.current ≡ c → (a : ReadAnchor) → anchor_of (delivery c) ≡ Some a → (claim d (record { anchor = a; seq = d.life.seq })).answer ≡ claim_answer c d.life.claim_epoch
   unfolding claim claim_start claim_gate claim_as delivery anchor_of
   claim_answers CurrentHead.Absent q a e = nothing_at e
   claim_answers (CurrentHead.Unclaimed u) q a e = rw (q, ticket_ok u.delivery a d.life.seq (at_same e) (rw q at v.seq_current), not_installed d.life v _ q tt a e) refl
@@ -93,13 +90,13 @@ module _ (d : Driver) (v : Ordered d.life) where
   claim_answers (CurrentHead.Settled s) q a e = rw (q, ticket_ok s.delivery a d.life.seq (at_same e) (rw q at v.seq_current), same_holds _ _ ((rw q at v.settled_installed) ∙ e)) refl
 
   -- a completion at the current anchor tells the end
-  pub completion_answers : (a : ReadAnchor) → current_anchor d ≡ AnchorSlot.At a → (completion d a).answer ≡ Answer.Completion (published d.life.current)
+  pub completion_answers : (a : ReadAnchor) → current_anchor d ≡ Some a → (completion d a).answer ≡ Answer.Completion (published d.life.current)
   unfolding completion end_at
   completion_answers a e = rw (same_holds _ _ e) refl
 
   -- a delivery of the current anchor tells whether its parent hash is the current one
-  pub deliver_answers : (held : HeadDelivery) → delivery d.life.current ≡ DeliverySlot.Held held → (a : ReadAnchor) → held.anchor ≡ a → (p : Hash) (cold : ℕ)
-      → (deliver d a p cold).answer ≡ Answer.Ticket (if (same_hash held.parent_hash p) d.life.seq (next_seq d.life.seq))
+  pub deliver_answers : (held : HeadDelivery) → delivery d.life.current ≡ Some held → (a : ReadAnchor) → held.anchor ≡ a → (p : Hash) (cold : ℕ)
+      → (deliver d a p cold).answer ≡ Answer.Ticket (cond (same_hash held.parent_hash p) d.life.seq (next_seq d.life.seq))
   unfolding deliver repeats repeat_of same_delivery deliver_as
   deliver_answers held q a e p cold =
       let n : held.seq ≡ d.life.seq = rw q at v.seq_current in
@@ -107,16 +104,16 @@ module _ (d : Driver) (v : Ordered d.life) where
 
   -- a snapshot tells what it finds
 
-  pub snapshot_current : (a : ReadAnchor) (spare : ℕ) → Unsettled (pose d.life.current) → current_anchor d ≡ AnchorSlot.At a
+  pub snapshot_current : (a : ReadAnchor) (spare : ℕ) → Unsettled (pose d.life.current) → current_anchor d ≡ Some a
       → (snapshot d a spare).answer ≡ Answer.View (view_of Source.Provisional (provisional_of d.life.current) (HeadReadiness.Cold HeadCold.Unprepared))
   unfolding snapshot viewed
   snapshot_current a spare u e = ap Answer.View (view_current d.life a spare u e (not_installed d.life v _ refl u a e))
 
-  pub snapshot_installed : (g : Generation) (a : ReadAnchor) (spare : ℕ) → d.life.installed ≡ GenerationSlot.Held g → g.anchor ≡ a → (snapshot d a spare).answer ≡ Answer.View (view_of Source.Installed g.handle g.readiness)
+  pub snapshot_installed : (g : Generation) (a : ReadAnchor) (spare : ℕ) → d.life.installed ≡ Some g → g.anchor ≡ a → (snapshot d a spare).answer ≡ Answer.View (view_of Source.Installed g.handle g.readiness)
   unfolding snapshot viewed
   snapshot_installed g a spare e p = ap Answer.View (view_installed d.life a spare g e p)
 
-  pub snapshot_previous : (g : Generation) (a : ReadAnchor) (spare : ℕ) → holds (installed_anchor d) a ≡ false → unsettled_at d.life.current a ≡ false → d.life.previous ≡ GenerationSlot.Held g → g.anchor ≡ a
+  pub snapshot_previous : (g : Generation) (a : ReadAnchor) (spare : ℕ) → holds (installed_anchor d) a ≡ false → unsettled_at d.life.current a ≡ false → d.life.previous ≡ Some g → g.anchor ≡ a
       → (snapshot d a spare).answer ≡ Answer.View (view_of Source.Previous g.handle g.readiness)
   unfolding snapshot viewed
   snapshot_previous g a spare x y e p = ap Answer.View (view_previous d.life a spare g x y e p)

@@ -1,27 +1,25 @@
 -- What is shown against what can be told: a driver is alike to what its sheet shows, so drivers that show the same answer alike; and drivers that are alike show the same.
+use Rattle.std.specs.Prelude.{Option, Some, cond, ◌&&◌}
+use Rattle.head_ready.specs.declared.Generation.{Generation}
+use Rattle.head_current.specs.declared.DeltaReport.{DeltaReport}
 use Prim.Native.Nat.{ℕ}
 use mathlib.Core.Bool.{Bool, true, false}
 use mathlib.Core.List.{List, [], ◌∷◌}
 use mathlib.Core.Path.{◌≡◌, refl, sym, ap, ◌∙◌, subst, ap₂}
 use Rattle.head_step.specs.Steps.{step}
-use Rattle.hash.specs.Logic.{both, if}
 use Rattle.head_anchor.specs.Anchors.{holds}
 use Rattle.head_attempt.specs.Attempts.{settled}
 use Rattle.head_count.specs.Counters.{seq_of}
 use Rattle.head_current.specs.Heads.{anchor_of, delivery}
 use Rattle.head_ready.specs.Generations.{slot_anchor}
-use Rattle.head_anchor.specs.declared.AnchorSlot.{AnchorSlot}
 use Rattle.head_anchor.specs.declared.ReadAnchor.{ReadAnchor}
 use Rattle.head_count.specs.declared.Epoch.{Epoch}
 use Rattle.head_attempt.specs.declared.HeadCompletion.{HeadCompletion}
 use Rattle.head_attempt.specs.declared.Waiter.{Waiter}
 use Rattle.head_attempt.specs.declared.WaiterSlot.{WaiterSlot}
 use Rattle.head_current.specs.declared.CurrentHead.{CurrentHead}
-use Rattle.head_current.specs.declared.DeliverySlot.{DeliverySlot}
 use Rattle.head_current.specs.declared.HeadDelivery.{HeadDelivery}
-use Rattle.head_current.specs.declared.LastReport.{LastReport}
 use Rattle.head_driver.specs.declared.Driver.{Driver}
-use Rattle.head_ready.specs.declared.GenerationSlot.{GenerationSlot}
 use Rattle.head_life.specs.declared.HeadLifecycle.{HeadLifecycle}
 use Rattle.head_call.specs.declared.Call.{Call}
 use Rattle.alike.proofs.Alike.{Alike, SameHead, SameSuperseded, Telling, both_step, driver_of, same_of}
@@ -35,36 +33,36 @@ use Rattle.alike.specs.Statements.{ShowsEnough}
 
 -- Masked is just where no answer tells.
 
-settled_both : (c : CurrentHead) (x : Bool) → both (is_settled c) x ≡ false → WhenSettled c (λ s. x ≡ false)
+settled_both : (c : CurrentHead) (x : Bool) → (is_settled c && x) ≡ false → WhenSettled c (λ s. x ≡ false)
 settled_both CurrentHead.Absent x e = tt
 settled_both (CurrentHead.Unclaimed u) x e = tt
 settled_both (CurrentHead.Preparing u) x e = tt
 settled_both (CurrentHead.Settled s) x e = e
 
-both_settled_false : (c : CurrentHead) (x : Bool) → WhenSettled c (λ s. x ≡ false) → both (is_settled c) x ≡ false
+both_settled_false : (c : CurrentHead) (x : Bool) → WhenSettled c (λ s. x ≡ false) → (is_settled c && x) ≡ false
 both_settled_false CurrentHead.Absent x e = refl
 both_settled_false (CurrentHead.Unclaimed u) x e = refl
 both_settled_false (CurrentHead.Preparing u) x e = refl
 both_settled_false (CurrentHead.Settled s) x e = e
 
-either_false : (t r : Bool) → if t true r ≡ false → (t ≡ false) × (r ≡ false)
+either_false : (t r : Bool) → cond t true r ≡ false → (t ≡ false) × (r ≡ false)
 either_false true r e = true_false refl e
 either_false false r e = (refl, e)
 
-telling_unmasked : (c : CurrentHead) (p : GenerationSlot) (a : ReadAnchor) → Telling c p a → masked c p a ≡ false
+telling_unmasked : (c : CurrentHead) (p : Option Generation) (a : ReadAnchor) → Telling c p a → masked c p a ≡ false
 unfolding masked
 telling_unmasked c p a t = rw t.0 (both_settled_false c (holds (slot_anchor p) a) t.1)
 
-unmasked_telling : (c : CurrentHead) (p : GenerationSlot) (a : ReadAnchor) → masked c p a ≡ false → Telling c p a
+unmasked_telling : (c : CurrentHead) (p : Option Generation) (a : ReadAnchor) → masked c p a ≡ false → Telling c p a
 unfolding masked
 unmasked_telling c p a e =
-    let b = either_false (holds (anchor_of (delivery c)) a) (both (is_settled c) (holds (slot_anchor p) a)) e in
+    let b = either_false (holds (anchor_of (delivery c)) a) (is_settled c && holds (slot_anchor p) a) e in
     (b.0, settled_both c (holds (slot_anchor p) a) b.1)
 
 -- A driver and what it shows are alike.
 
 module _ (l : HeadLifecycle) (v : Ordered l) where
-  seq_shown : (c : CurrentHead) (held : HeadDelivery) → l.current ≡ c → delivery c ≡ DeliverySlot.Held held → seq_of l.stats.delivered ≡ held.seq
+  seq_shown : (c : CurrentHead) (held : HeadDelivery) → l.current ≡ c → delivery c ≡ Some held → seq_of l.stats.delivered ≡ held.seq
   seq_shown c held q h = sym ((rw (q, h) at v.seq_current) ∙ v.seq_delivered)
 
   shown_head_lem : (c : CurrentHead) → l.current ≡ c → SameHead c (shown_head l.stats.delivered l.claim_epoch c)
@@ -74,11 +72,11 @@ module _ (l : HeadLifecycle) (v : Ordered l) where
   shown_head_lem (CurrentHead.Preparing u) q = rw (seq_shown _ u.delivery q refl, ← rw q at v.preparing_attempt) (SameHead.both_preparing u)
   shown_head_lem (CurrentHead.Settled s) q = rw (seq_shown _ s.delivery q refl) (same_end s.delivery s.report s.attempt.epoch _ (rw q at v.settled_end))
     where
-      same_end : (held : HeadDelivery) (r : LastReport) (k x : Epoch) {t z : HeadCompletion} → t ≡ z
+      same_end : (held : HeadDelivery) (r : Option DeltaReport) (k x : Epoch) {t z : HeadCompletion} → t ≡ z
           → SameHead (CurrentHead.Settled (record { delivery = held; report = r; attempt = record { epoch = k; end = t } })) (CurrentHead.Settled (record { delivery = held; report = r; attempt = record { epoch = x; end = z } }))
       same_end held r k x e = rw e (SameHead.both_settled held r k x _)
 
-shown_superseded_lem : (c : CurrentHead) (p : GenerationSlot) (s : AnchorSlot) → SameSuperseded c p s (shown_superseded c p s)
+shown_superseded_lem : (c : CurrentHead) (p : Option Generation) (s : Option ReadAnchor) → SameSuperseded c p s (shown_superseded c p s)
 unfolding shown_superseded
 shown_superseded_lem c p s a t = mask_holds (masked c p) a s (telling_unmasked c p a t)
 
@@ -125,11 +123,11 @@ same_shown : {c₁ c₂ : CurrentHead} → SameHead c₁ c₂ → (n : ℕ) (e :
 unfolding shown_head
 same_shown w n e = same_of w (shown_head n e) (λ held h k l t. refl) (λ held r k l t. refl)
 
-same_masked : {c₁ c₂ : CurrentHead} → SameHead c₁ c₂ → (p : GenerationSlot) (s : AnchorSlot) → shown_superseded c₁ p s ≡ shown_superseded c₂ p s
+same_masked : {c₁ c₂ : CurrentHead} → SameHead c₁ c₂ → (p : Option Generation) (s : Option ReadAnchor) → shown_superseded c₁ p s ≡ shown_superseded c₂ p s
 unfolding shown_superseded masked delivery
 same_masked w p s = same_of w (λ c. shown_superseded c p s) (λ held h k l t. refl) (λ held r k l t. refl)
 
-same_superseded : (c : CurrentHead) (p : GenerationSlot) (s₁ s₂ : AnchorSlot) → SameSuperseded c p s₁ s₂ → shown_superseded c p s₁ ≡ shown_superseded c p s₂
+same_superseded : (c : CurrentHead) (p : Option Generation) (s₁ s₂ : Option ReadAnchor) → SameSuperseded c p s₁ s₂ → shown_superseded c p s₁ ≡ shown_superseded c p s₂
 unfolding shown_superseded
 same_superseded c p s₁ s₂ m = mask_same (masked c p) s₁ s₂ (λ a e. m a (unmasked_telling c p a e))
 

@@ -1,17 +1,16 @@
 -- The tests of the state machine as equations: a test of equality holds exactly of equals; and what a saturating counter does.
+use Rattle.std.specs.Prelude.{Option, None, Some, cond, ◌&&◌}
 use Prim.Native.Nat.{ℕ, ◌+◌, ◌≤◌, ◌<◌}
 use mathlib.Core.Bool.{Bool, true, false}
 use mathlib.Core.Path.{◌≡◌, refl, ap}
 use native.Mathlib.Omega.{arith}
 use lib.Dec.{eqb, ltb}
 use borrow.Author.Tests.{eq-eqb, ltb-true, ltb-false, eqb-true}
+use Rattle.std.specs.Option.{option_eq}
 use Rattle.hash.specs.Hashes.{same_hash}
-use Rattle.hash.specs.Logic.{both, if}
-use Rattle.head_anchor.specs.Anchors.{holds, same_anchor, same_block_hash}
+use Rattle.head_anchor.specs.Anchors.{holds, same_anchor}
 use Rattle.head_count.specs.Counters.{up}
 use Rattle.hash.specs.declared.Hash.{Hash}
-use Rattle.head_anchor.specs.declared.AnchorSlot.{AnchorSlot}
-use Rattle.head_anchor.specs.declared.BlockHash.{BlockHash}
 use Rattle.head_anchor.specs.declared.ReadAnchor.{ReadAnchor}
 use Rattle.hash.specs.Ranges.{Fits}
 
@@ -24,7 +23,7 @@ by_test true t f = t refl
 by_test false t f = f refl
 
 -- a choice has a property if both its cases have it
-pub by_if : {A : Type 0} (P : A → Type 0) (b : Bool) (x y : A) → (b ≡ true → P x) → (b ≡ false → P y) → P (if b x y)
+pub by_if : {A : Type 0} (P : A → Type 0) (b : Bool) (x y : A) → (b ≡ true → P x) → (b ≡ false → P y) → P (cond b x y)
 by_if P true x y t f = t refl
 by_if P false x y t f = f refl
 
@@ -33,11 +32,11 @@ pub is_false : (b : Bool) → (b ≡ true → ⊥) → b ≡ false
 is_false true n = absurd (n refl)
 is_false false n = refl
 
-pub both_left : (a b : Bool) → both a b ≡ true → a ≡ true
+pub both_left : (a b : Bool) → (a && b) ≡ true → a ≡ true
 both_left true b e = refl
 both_left false b e = e
 
-pub both_right : (a b : Bool) → both a b ≡ true → b ≡ true
+pub both_right : (a b : Bool) → (a && b) ≡ true → b ≡ true
 both_right true b e = e
 both_right false b e = true_false e refl
 
@@ -52,8 +51,8 @@ pub same_hash_lem : (a b : Hash) → same_hash a b ≡ true → a ≡ b
 unfolding same_hash
 same_hash_lem a b e =
     let t3 = eqb a.w3 b.w3 in
-    let t2 = both (eqb a.w2 b.w2) t3 in
-    let t1 = both (eqb a.w1 b.w1) t2 in
+    let t2 = eqb a.w2 b.w2 && t3 in
+    let t1 = eqb a.w1 b.w1 && t2 in
     let r1 = both_right (eqb a.w0 b.w0) t1 e in
     let r2 = both_right (eqb a.w1 b.w1) t2 r1 in
     let p0 = eqb-true _ _ (both_left (eqb a.w0 b.w0) t1 e) in
@@ -66,23 +65,21 @@ pub hash_same : (a : Hash) → same_hash a a ≡ true
 unfolding same_hash
 hash_same a = simp eqb_same
 
-same_block_hash_lem : (a b : BlockHash) → same_block_hash a b ≡ true → a ≡ b
-unfolding same_block_hash
-same_block_hash_lem BlockHash.Unknown BlockHash.Unknown e = refl
-same_block_hash_lem BlockHash.Unknown (BlockHash.Known b) e = true_false e refl
-same_block_hash_lem (BlockHash.Known a) BlockHash.Unknown e = true_false e refl
-same_block_hash_lem (BlockHash.Known a) (BlockHash.Known b) e = ap BlockHash.Known (same_hash_lem a b e)
+same_block_hash_lem : (a b : Option Hash) → option_eq same_hash a b ≡ true → a ≡ b
+same_block_hash_lem None None e = refl
+same_block_hash_lem None (Some b) e = true_false e refl
+same_block_hash_lem (Some a) None e = true_false e refl
+same_block_hash_lem (Some a) (Some b) e = ap Some (same_hash_lem a b e)
 
-block_hash_same : (a : BlockHash) → same_block_hash a a ≡ true
-unfolding same_block_hash
-block_hash_same BlockHash.Unknown = refl
-block_hash_same (BlockHash.Known a) = hash_same a
+block_hash_same : (a : Option Hash) → option_eq same_hash a a ≡ true
+block_hash_same None = refl
+block_hash_same (Some a) = hash_same a
 
 pub same_anchor_lem : (a b : ReadAnchor) → same_anchor a b ≡ true → a ≡ b
 unfolding same_anchor
 same_anchor_lem a b e =
-    let p = eqb-true _ _ (both_left (eqb a.number b.number) (same_block_hash a.hash b.hash) e) in
-    let q = same_block_hash_lem _ _ (both_right (eqb a.number b.number) (same_block_hash a.hash b.hash) e) in
+    let p = eqb-true _ _ (both_left (eqb a.number b.number) (option_eq same_hash a.hash b.hash) e) in
+    let q = same_block_hash_lem _ _ (both_right (eqb a.number b.number) (option_eq same_hash a.hash b.hash) e) in
     λ i. record { number = p i; hash = q i }
 
 pub anchor_same : (a b : ReadAnchor) → a ≡ b → same_anchor a b ≡ true
@@ -91,19 +88,19 @@ anchor_same a b e = rw (e, eqb_same, block_hash_same) refl
 
 -- slots
 
-pub holds_same : (s : AnchorSlot) (a : ReadAnchor) → holds s a ≡ true → s ≡ AnchorSlot.At a
+pub holds_same : (s : Option ReadAnchor) (a : ReadAnchor) → holds s a ≡ true → s ≡ Some a
 unfolding holds
-holds_same AnchorSlot.Nothing a e = true_false e refl
-holds_same (AnchorSlot.At b) a e = ap AnchorSlot.At (same_anchor_lem b a e)
+holds_same None a e = true_false e refl
+holds_same (Some b) a e = ap Some (same_anchor_lem b a e)
 
-pub same_holds : (s : AnchorSlot) (a : ReadAnchor) → s ≡ AnchorSlot.At a → holds s a ≡ true
+pub same_holds : (s : Option ReadAnchor) (a : ReadAnchor) → s ≡ Some a → holds s a ≡ true
 unfolding holds
 same_holds s a e = rw e (anchor_same a a refl)
 
-pub at_same : {a b : ReadAnchor} → AnchorSlot.At a ≡ AnchorSlot.At b → a ≡ b
+pub at_same : {a b : ReadAnchor} → Some a ≡ Some b → a ≡ b
 at_same p = cc
 
-pub nothing_at : {X : Type 0} {a : ReadAnchor} → AnchorSlot.Nothing ≡ AnchorSlot.At a → X
+pub nothing_at : {X : Type 0} {a : ReadAnchor} → None ≡ Some a → X
 nothing_at p = let z : ◌≡◌ {A = ℕ} 0 1 = cc in absurd (omega arith)
 
 -- counters

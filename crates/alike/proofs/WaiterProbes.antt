@@ -1,5 +1,8 @@
 -- Probes of the waiters. A resume of a waiter, where the head is preparing at an anchor, tells a free one, one that is parked or stays so, and one that gets a view: of the
 -- head's own anchor or of another. Brought to a preparation at its own anchor, a waiter that is not parked tells all; a parked one is released first.
+use Rattle.std.specs.Prelude.{Option, None, Some, cond}
+use Rattle.head_ready.specs.declared.Generation.{Generation}
+use Rattle.head_current.specs.declared.HeadDelivery.{HeadDelivery}
 use Prim.Native.Nat.{ℕ, ◌<◌}
 use mathlib.Core.Bool.{Bool, true, false}
 use mathlib.Core.List.{List}
@@ -8,7 +11,6 @@ use native.Mathlib.Omega.{arith}
 use lib.Dec.{lit<}
 use lib.Seq.{ext_get_or}
 use borrow.Author.Tests.{lt-ltb}
-use Rattle.hash.specs.Logic.{if}
 use Rattle.head_anchor.specs.Anchors.{holds, same_anchor}
 use Rattle.head_attempt.specs.Waiters.{slot_of, woken}
 use Rattle.head_current.specs.Heads.{anchor_of, delivery}
@@ -27,19 +29,15 @@ use Rattle.head_step.specs.Dispatch.{dispatch}
 use Rattle.head_view.specs.Views.{generation_view, spare_view, view, view_of}
 use Rattle.head_waits.specs.Calls.{abandoned_view, join, preparing_at, resume, resume_as, unowned, viewed_by, waiter_at}
 use Rattle.hash.specs.declared.Hash.{Hash}
-use Rattle.head_anchor.specs.declared.AnchorSlot.{AnchorSlot}
 use Rattle.head_anchor.specs.declared.ReadAnchor.{ReadAnchor}
 use Rattle.head_attempt.specs.declared.HeadCompletion.{HeadCompletion}
 use Rattle.head_count.specs.declared.Seq.{Seq}
 use Rattle.head_attempt.specs.declared.Waiter.{Waiter}
 use Rattle.head_attempt.specs.declared.WaiterSlot.{WaiterSlot}
 use Rattle.head_current.specs.declared.CurrentHead.{CurrentHead}
-use Rattle.head_current.specs.declared.DeliverySlot.{DeliverySlot}
-use Rattle.head_deliver.specs.declared.head_lifecycle.Repeat.{Repeat}
 use Rattle.head_current.specs.declared.UnsettledHead.{UnsettledHead}
 use Rattle.head_driver.specs.declared.Answer.{Answer}
 use Rattle.head_driver.specs.declared.Driver.{Driver}
-use Rattle.head_ready.specs.declared.GenerationSlot.{GenerationSlot}
 use Rattle.head_ready.specs.declared.HeadCold.{HeadCold}
 use Rattle.head_life.specs.declared.HeadLifecycle.{HeadLifecycle}
 use Rattle.head_ready.specs.declared.HeadReadiness.{HeadReadiness}
@@ -99,12 +97,12 @@ tells Answer.WaiterFree = vacant
 abbrev mark : ReadAnchor → Waiter → ℕ
 mark a Waiter.Free = vacant
 mark a Waiter.Parked = stays
-mark a (Waiter.Abandoned b) = if (same_anchor a b) shown_here shown_elsewhere
-mark a (Waiter.Ended b) = if (same_anchor a b) stays shown_elsewhere
+mark a (Waiter.Abandoned b) = cond (same_anchor a b) shown_here shown_elsewhere
+mark a (Waiter.Ended b) = cond (same_anchor a b) stays shown_elsewhere
 
 -- One-sided: a resume tells the mark.
 
-prepares_at : (c : CurrentHead) (a : ReadAnchor) → pose c ≡ Pose.Preparing → anchor_of (delivery c) ≡ AnchorSlot.At a → (b : ReadAnchor) → (preparing_at c b ≡ same_anchor a b) × (unsettled_at c b ≡ same_anchor a b)
+prepares_at : (c : CurrentHead) (a : ReadAnchor) → pose c ≡ Pose.Preparing → anchor_of (delivery c) ≡ Some a → (b : ReadAnchor) → (preparing_at c b ≡ same_anchor a b) × (unsettled_at c b ≡ same_anchor a b)
 unfolding preparing_at anchor_of delivery
 prepares_at c a k e b =
     let u = preparing_of c k in
@@ -112,10 +110,10 @@ prepares_at c a k e b =
     rw (u.1, z) (refl, refl)
 
 -- a view of another anchor than the unsettled head's is never provisional
-generation_source : (k : Source) (g : GenerationSlot) (a : ReadAnchor) (o : HeadView) → source_tells k ≡ shown_elsewhere → source_tells o.source ≡ shown_elsewhere → source_tells (generation_view k g a o).source ≡ shown_elsewhere
+generation_source : (k : Source) (g : Option Generation) (a : ReadAnchor) (o : HeadView) → source_tells k ≡ shown_elsewhere → source_tells o.source ≡ shown_elsewhere → source_tells (generation_view k g a o).source ≡ shown_elsewhere
 unfolding generation_view
-generation_source k GenerationSlot.Nothing a o p q = q
-generation_source k (GenerationSlot.Held g) a o p q = by_if (λ (v : HeadView). source_tells v.source ≡ shown_elsewhere) (same_anchor g.anchor a) _ _ (λ e. p) (λ e. q)
+generation_source k None a o p q = q
+generation_source k (Some g) a o p q = by_if (λ (v : HeadView). source_tells v.source ≡ shown_elsewhere) (same_anchor g.anchor a) _ _ (λ e. p) (λ e. q)
 
 view_source : (l : HeadLifecycle) (b : ReadAnchor) (spare : ℕ) → unsettled_at l.current b ≡ false → source_tells (view l b spare).source ≡ shown_elsewhere
 unfolding view spare_view
@@ -125,11 +123,11 @@ abandoned_source : (v : HeadView) (spare : ℕ) → source_tells v.source ≡ sh
 unfolding abandoned_view
 abandoned_source v spare e = by_if (λ (x : HeadView). source_tells x.source ≡ shown_elsewhere) (is_ready v.readiness) _ _ (λ z. refl) (λ z. e)
 
-module _ (d : Driver) (v : Ordered d.life) (a : ReadAnchor) (k : pose d.life.current ≡ Pose.Preparing) (e : current_anchor d ≡ AnchorSlot.At a) where
+module _ (d : Driver) (v : Ordered d.life) (a : ReadAnchor) (k : pose d.life.current ≡ Pose.Preparing) (e : current_anchor d ≡ Some a) where
   view_own : (b : ReadAnchor) (spare : ℕ) → same_anchor a b ≡ true → view d.life b spare ≡ view_of Source.Provisional (provisional_of d.life.current) (HeadReadiness.Cold HeadCold.Unprepared)
   view_own b spare t =
       let u : Unsettled (pose d.life.current) = rw k tt in
-      let q = e ∙ ap AnchorSlot.At (same_anchor_lem a b t) in
+      let q = e ∙ ap Some (same_anchor_lem a b t) in
       view_current d.life b spare u q (not_installed d.life v _ refl u b q)
 
   view_other : (b : ReadAnchor) (spare : ℕ) → same_anchor a b ≡ false → source_tells (view d.life b spare).source ≡ shown_elsewhere
@@ -148,7 +146,7 @@ module _ (d : Driver) (v : Ordered d.life) (a : ReadAnchor) (k : pose d.life.cur
 
 -- Twins that are preparing at an anchor have the same marks.
 
-twin_mark : {d₁ d₂ : Driver} → Twin d₁ d₂ → (a : ReadAnchor) → pose d₁.life.current ≡ Pose.Preparing → current_anchor d₁ ≡ AnchorSlot.At a → (n : ℕ) → n < 16 → mark a (waiter_at d₁.waiters n) ≡ mark a (waiter_at d₂.waiters n)
+twin_mark : {d₁ d₂ : Driver} → Twin d₁ d₂ → (a : ReadAnchor) → pose d₁.life.current ≡ Pose.Preparing → current_anchor d₁ ≡ Some a → (n : ℕ) → n < 16 → mark a (waiter_at d₁.waiters n) ≡ mark a (waiter_at d₂.waiters n)
 unfolding dispatch resume
 twin_mark {d₁} {d₂} w a k e n b =
     let q = rw (lt-ltb n 16 b) at (twin_answer w (Call.Resume n 0) (omega arith, zero_fits)) in
@@ -160,23 +158,23 @@ twin_mark {d₁} {d₂} w a k e n b =
 
 record Delivered (d : Driver) (a : ReadAnchor) (e : Driver) : Type 0 where
   unsettles : Unsettled (pose e.life.current)
-  anchors : current_anchor e ≡ AnchorSlot.At a
+  anchors : current_anchor e ≡ Some a
   keeps : (n : ℕ) → NotParked (waiter_at d.waiters n) → waiter_at e.waiters n ≡ waiter_at d.waiters n
 
-repeated_anchor : (s : DeliverySlot) (a : ReadAnchor) (p : Hash) (n : Seq) → repeats s a p ≡ Repeat.Of n → anchor_of s ≡ AnchorSlot.At a
+repeated_anchor : (s : Option HeadDelivery) (a : ReadAnchor) (p : Hash) (n : Seq) → repeats s a p ≡ Some n → anchor_of s ≡ Some a
 unfolding repeats repeat_of same_delivery anchor_of
-repeated_anchor DeliverySlot.Nothing a p n e = let z : ◌≡◌ {A = ℕ} 0 1 = cc in absurd (omega arith)
-repeated_anchor (DeliverySlot.Held held) a p n e = by_test (same_anchor held.anchor a)
-    (λ t. ap AnchorSlot.At (same_anchor_lem _ _ t))
+repeated_anchor None a p n e = let z : ◌≡◌ {A = ℕ} 0 1 = cc in absurd (omega arith)
+repeated_anchor (Some held) a p n e = by_test (same_anchor held.anchor a)
+    (λ t. ap Some (same_anchor_lem _ _ t))
     (λ f.
-    let q : Repeat.New ≡ Repeat.Of n = rw f at e in
+    let q : None ≡ Some n = rw f at e in
     let z : ◌≡◌ {A = ℕ} 0 1 = cc in
     absurd (omega arith))
 
-deliver_as_lem : (d : Driver) → Ordered d.life → (a : ReadAnchor) → holds (installed_anchor d) a ≡ false → (r : Repeat) → repeats (delivery d.life.current) a zeros ≡ r → Delivered d a (deliver_as d a zeros 0 r).driver
+deliver_as_lem : (d : Driver) → Ordered d.life → (a : ReadAnchor) → holds (installed_anchor d) a ≡ false → (r : Option Seq) → repeats (delivery d.life.current) a zeros ≡ r → Delivered d a (deliver_as d a zeros 0 r).driver
 unfolding deliver_as delivered new_head delivery anchor_of with_life counted
-deliver_as_lem d v a o Repeat.New q = rw o (record { unsettles = tt; anchors = refl; keeps = λ n z. ending_at HeadCompletion.Superseded d.life.current d.waiters n z })
-deliver_as_lem d v a o (Repeat.Of k) q =
+deliver_as_lem d v a o None q = rw o (record { unsettles = tt; anchors = refl; keeps = λ n z. ending_at HeadCompletion.Superseded d.life.current d.waiters n z })
+deliver_as_lem d v a o (Some k) q =
     let c = repeated_anchor (delivery d.life.current) a zeros k q in
     record {
       unsettles = by_pose (pose d.life.current) (λ u. u) (λ n. true_false (same_holds _ _ (sym (settled_anchor d.life v _ refl n) ∙ c)) o);
@@ -192,13 +190,13 @@ deliver_kept d v a o = deliver_as_lem d v a o _ refl
 
 record Prepared (d : Driver) (a : ReadAnchor) (e : Driver) : Type 0 where
   prepares : pose e.life.current ≡ Pose.Preparing
-  anchors : current_anchor e ≡ AnchorSlot.At a
+  anchors : current_anchor e ≡ Some a
   keeps : e.waiters ≡ d.waiters
 
 claiming : ReadAnchor → Seq → Call
 claiming a n = Call.Claim (record { anchor = a; seq = n })
 
-claim_prepares : (d : Driver) → Ordered d.life → (c : CurrentHead) → d.life.current ≡ c → Unsettled (pose c) → (a : ReadAnchor) → anchor_of (delivery c) ≡ AnchorSlot.At a → Prepared d a (dispatch d (claiming a d.life.seq)).driver
+claim_prepares : (d : Driver) → Ordered d.life → (c : CurrentHead) → d.life.current ≡ c → Unsettled (pose c) → (a : ReadAnchor) → anchor_of (delivery c) ≡ Some a → Prepared d a (dispatch d (claiming a d.life.seq)).driver
 unfolding claiming dispatch claim claim_start claim_gate claim_as claimed claimed_head with_life delivery anchor_of
 claim_prepares d v CurrentHead.Absent q u a e = absurd u
 claim_prepares d v (CurrentHead.Unclaimed x) q u a e =
@@ -213,7 +211,7 @@ module _ (a : ReadAnchor) (f : AnchorFits a) (n : ℕ) (b : n < 16) where
   abbrev Marked : Driver → Driver → Type 0
   Marked d e = mark a (waiter_at d.waiters n) ≡ mark a (waiter_at e.waiters n)
 
-  marks_claim : {d₁ d₂ : Driver} → Twin d₁ d₂ → Unsettled (pose d₁.life.current) → current_anchor d₁ ≡ AnchorSlot.At a → Marked d₁ d₂
+  marks_claim : {d₁ d₂ : Driver} → Twin d₁ d₂ → Unsettled (pose d₁.life.current) → current_anchor d₁ ≡ Some a → Marked d₁ d₂
   marks_claim {d₁} {d₂} w u e =
       let z = twin_step w (claiming a d₁.life.seq) (unfold claiming in (f, w.invariant₁.fits.life.seq)) in
       let p₁ = claim_prepares d₁ w.invariant₁.ordered _ refl u a e in
@@ -229,13 +227,13 @@ module _ (a : ReadAnchor) (f : AnchorFits a) (n : ℕ) (b : n < 16) where
 
   -- another anchor than this
   elsewhere : ReadAnchor
-  elsewhere = outside (AnchorSlot.At a) AnchorSlot.Nothing
+  elsewhere = outside (Some a) None
 
   elsewhere_not : same_anchor a elsewhere ≡ false
   unfolding elsewhere holds
-  elsewhere_not = outside_first (AnchorSlot.At a) AnchorSlot.Nothing
+  elsewhere_not = outside_first (Some a) None
 
-  marks_cold : {d₁ d₂ : Driver} → Twin d₁ d₂ → Unsettled (pose d₁.life.current) → current_anchor d₁ ≡ AnchorSlot.At elsewhere → NotParked (waiter_at d₁.waiters n) → NotParked (waiter_at d₂.waiters n) → Marked d₁ d₂
+  marks_cold : {d₁ d₂ : Driver} → Twin d₁ d₂ → Unsettled (pose d₁.life.current) → current_anchor d₁ ≡ Some elsewhere → NotParked (waiter_at d₁.waiters n) → NotParked (waiter_at d₂.waiters n) → Marked d₁ d₂
   unfolding holds
   marks_cold {d₁} {d₂} w u e k₁ k₂ =
       let z = twin_cold w elsewhere (anchor_fits w elsewhere e) in
@@ -249,7 +247,7 @@ module _ (a : ReadAnchor) (f : AnchorFits a) (n : ℕ) (b : n < 16) where
   marks_installed : {d₁ d₂ : Driver} → Twin d₁ d₂ → holds (installed_anchor d₁) a ≡ true → NotParked (waiter_at d₁.waiters n) → NotParked (waiter_at d₂.waiters n) → Marked d₁ d₂
   unfolding holds
   marks_installed {d₁} {d₂} w o k₁ k₂ =
-      let z = twin_step w (delivering elsewhere) (unfold elsewhere in outside_fits (AnchorSlot.At a) AnchorSlot.Nothing, zeros_fit, zero_fits) in
+      let z = twin_step w (delivering elsewhere) (unfold elsewhere in outside_fits (Some a) None, zeros_fit, zero_fits) in
       let i : holds (installed_anchor d₁) elsewhere ≡ false = rw (holds_same (installed_anchor d₁) a o) elsewhere_not in
       let p₁ = deliver_kept d₁ w.invariant₁.ordered elsewhere i in
       let p₂ = deliver_kept d₂ w.invariant₂.ordered elsewhere (rw (probe_anchors w).1 at i) in
@@ -260,11 +258,11 @@ module _ (a : ReadAnchor) (f : AnchorFits a) (n : ℕ) (b : n < 16) where
 
 -- Two numbers that a choice tells apart.
 
-first_of : (t : Bool) (x y : ℕ) → x < y → x ≡ if t x y → t ≡ true
+first_of : (t : Bool) (x y : ℕ) → x < y → x ≡ cond t x y → t ≡ true
 first_of true x y h e = refl
 first_of false x y h e = absurd (omega arith)
 
-neither_of : {X : Type 0} (t : Bool) (k x y : ℕ) → (k ≡ x → ⊥) → (k ≡ y → ⊥) → k ≡ if t x y → X
+neither_of : {X : Type 0} (t : Bool) (k x y : ℕ) → (k ≡ x → ⊥) → (k ≡ y → ⊥) → k ≡ cond t x y → X
 neither_of true k x y p q e = absurd (p e)
 neither_of false k x y p q e = absurd (q e)
 
@@ -317,7 +315,7 @@ probe_parked {d₁} {d₂} w e n b q =
     let p₁ = preparing_of d₁.life.current k in
     let p₂ = preparing_of d₂.life.current (sym (probe_pose w) ∙ k) in
     let a = p₁.0.delivery.anchor in
-    let a₁ : current_anchor d₁ ≡ AnchorSlot.At a = ap (λ c. anchor_of (delivery c)) p₁.1 in
+    let a₁ : current_anchor d₁ ≡ Some a = ap (λ c. anchor_of (delivery c)) p₁.1 in
     let a₂ : p₂.0.delivery.anchor ≡ a = at_same (sym (ap (λ c. anchor_of (delivery c)) p₂.1) ∙ twin_anchor w a a₁) in
     let z = rw (release_hit d₁ v₁ p₁.0 p₁.1 d₁.life.seq d₁.life.claim_epoch refl refl, release_hit d₂ v₂ p₂.0 p₂.1 d₁.life.seq d₁.life.claim_epoch (sym (probe_seq w)) (sym e))
     at (twin_step w (Call.Release (record { seq = d₁.life.seq; epoch = d₁.life.claim_epoch })) (w.invariant₁.fits.life.seq, w.invariant₁.fits.life.epoch)) in

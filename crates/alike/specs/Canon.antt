@@ -1,6 +1,6 @@
 -- Document 01, "The sheet": what of a driver its sheet shows. `canon d` is a driver that holds just this, and beside it only what this implies.
-use Rattle.std.specs.Prelude.{ℕ, Bool, true, false, List, [], ◌∷◌}
-use Rattle.hash.specs.Logic.{both, if}
+use Rattle.head_ready.specs.declared.Generation.{Generation}
+use Rattle.std.specs.Prelude.{ℕ, Bool, true, false, List, [], ◌∷◌, Option, None, Some, cond, ◌&&◌}
 use Rattle.head_anchor.specs.Anchors.{holds}
 use Rattle.head_attempt.specs.Attempts.{minted, settled}
 use Rattle.head_count.specs.Counters.{epoch_of, seq_of}
@@ -8,7 +8,6 @@ use Rattle.head_attempt.specs.Waiters.{slot_of}
 use Rattle.head_current.specs.Heads.{anchor_of, delivery}
 use Rattle.head_deliver.specs.Delivered.{delivery_of}
 use Rattle.head_ready.specs.Generations.{slot_anchor}
-use Rattle.head_anchor.specs.declared.AnchorSlot.{AnchorSlot}
 use Rattle.head_anchor.specs.declared.ReadAnchor.{ReadAnchor}
 use Rattle.head_count.specs.declared.Epoch.{Epoch}
 use Rattle.head_attempt.specs.declared.Waiter.{Waiter}
@@ -16,7 +15,6 @@ use Rattle.head_attempt.specs.declared.WaiterSlot.{WaiterSlot}
 use Rattle.head_current.specs.declared.CurrentHead.{CurrentHead}
 use Rattle.head_current.specs.declared.HeadDelivery.{HeadDelivery}
 use Rattle.head_driver.specs.declared.Driver.{Driver}
-use Rattle.head_ready.specs.declared.GenerationSlot.{GenerationSlot}
 use Rattle.head_life.specs.declared.HeadLifecycle.{HeadLifecycle}
 
 abbrev pub is_settled : CurrentHead → Bool
@@ -26,15 +24,15 @@ is_settled (CurrentHead.Preparing u) = false
 is_settled (CurrentHead.Settled s) = true
 
 -- it is the current anchor, or the current head is settled and it is the previous anchor
-unfoldable pub masked : CurrentHead → GenerationSlot → ReadAnchor → Bool
-masked c previous a = if (holds (anchor_of (delivery c)) a) true (both (is_settled c) (holds (slot_anchor previous) a))
+unfoldable pub masked : CurrentHead → Option Generation → ReadAnchor → Bool
+masked c previous a = cond (holds (anchor_of (delivery c)) a) true (is_settled c && holds (slot_anchor previous) a)
 
-unfoldable pub mask_by : (ReadAnchor → Bool) → AnchorSlot → AnchorSlot
-mask_by hides AnchorSlot.Nothing = AnchorSlot.Nothing
-mask_by hides (AnchorSlot.At a) = if (hides a) AnchorSlot.Nothing (AnchorSlot.At a)
+unfoldable pub mask_by : (ReadAnchor → Bool) → Option ReadAnchor → Option ReadAnchor
+mask_by hides None = None
+mask_by hides (Some a) = cond (hides a) None (Some a)
 
 -- `(superseded A)`: the superseded anchor is written `none` when it is the current anchor, or when the current head is settled and it is the previous anchor
-unfoldable pub shown_superseded : CurrentHead → GenerationSlot → AnchorSlot → AnchorSlot
+unfoldable pub shown_superseded : CurrentHead → Option Generation → Option ReadAnchor → Option ReadAnchor
 shown_superseded c previous superseded = mask_by (masked c previous) superseded
 
 -- anchor and parent hash are written, and its seq is delivered

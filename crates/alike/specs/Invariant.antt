@@ -1,7 +1,7 @@
 -- What every driver keeps, whatever calls it gets: the state's own rules, I1 to I10, and the ranges of its numbers. What a sheet shows, taken as a driver, keeps it too, so no
 -- more than this may be used of a driver.
-use Rattle.std.specs.Prelude.{◌+◌, ◌≤◌, false, List, [], ◌∷◌, ◌≡◌}
-use Rattle.hash.specs.Logic.{both}
+use Rattle.head_current.specs.declared.DeltaReport.{DeltaReport}
+use Rattle.std.specs.Prelude.{◌+◌, ◌≤◌, false, List, [], ◌∷◌, ◌≡◌, Option, None, Some, ◌&&◌}
 use Rattle.head_anchor.specs.Anchors.{holds}
 use Rattle.head_anchor.specs.Lists.{is_linked, is_read}
 use Rattle.head_attempt.specs.Attempts.{minted}
@@ -10,19 +10,15 @@ use Rattle.head_current.specs.Heads.{delivery}
 use Rattle.head_report.specs.Reports.{current_report}
 use Rattle.head_ready.specs.Generations.{settled_readiness, slot_anchor}
 use Rattle.head_anchor.specs.declared.CarryOutcome.{CarryOutcome}
-use Rattle.head_anchor.specs.declared.AnchorSlot.{AnchorSlot}
 use Rattle.head_attempt.specs.declared.HeadCompletion.{HeadCompletion}
 use Rattle.head_attempt.specs.declared.Waiter.{Waiter}
 use Rattle.head_attempt.specs.declared.WaiterSlot.{WaiterSlot}
 use Rattle.head_current.specs.declared.CurrentHead.{CurrentHead}
-use Rattle.head_current.specs.declared.DeliverySlot.{DeliverySlot}
 use Rattle.head_current.specs.declared.HeadDelivery.{HeadDelivery}
-use Rattle.head_current.specs.declared.LastReport.{LastReport}
 use Rattle.head_current.specs.declared.SettledHead.{SettledHead}
 use Rattle.head_current.specs.declared.UnsettledHead.{UnsettledHead}
 use Rattle.head_driver.specs.declared.Driver.{Driver}
 use Rattle.head_ready.specs.declared.Generation.{Generation}
-use Rattle.head_ready.specs.declared.GenerationSlot.{GenerationSlot}
 use Rattle.head_ready.specs.declared.HeadCold.{HeadCold}
 use Rattle.head_life.specs.declared.HeadLifecycle.{HeadLifecycle}
 use Rattle.head_ready.specs.declared.HeadReadiness.{HeadReadiness}
@@ -57,17 +53,17 @@ abbrev pub UnlessPreparing : CurrentHead → Type 0 → Type 0
 UnlessPreparing c P = ByHead P (λ u. P) Any (λ s. P) c
 
 -- a fact of what was delivered, of a generation, of a report's outcome, where there is one
-abbrev pub WhenHeld : DeliverySlot → (HeadDelivery → Type 0) → Type 0
-WhenHeld DeliverySlot.Nothing P = Unit {0}
-WhenHeld (DeliverySlot.Held held) P = P held
+abbrev pub WhenHeld : Option HeadDelivery → (HeadDelivery → Type 0) → Type 0
+WhenHeld None P = Unit {0}
+WhenHeld (Some held) P = P held
 
-abbrev pub WhenGeneration : GenerationSlot → (Generation → Type 0) → Type 0
-WhenGeneration GenerationSlot.Nothing P = Unit {0}
-WhenGeneration (GenerationSlot.Held g) P = P g
+abbrev pub WhenGeneration : Option Generation → (Generation → Type 0) → Type 0
+WhenGeneration None P = Unit {0}
+WhenGeneration (Some g) P = P g
 
-abbrev pub WhenMade : LastReport → (CarryOutcome → Type 0) → Type 0
-WhenMade LastReport.Nothing P = Unit {0}
-WhenMade (LastReport.Made o n) P = P o
+abbrev pub WhenMade : Option DeltaReport → (CarryOutcome → Type 0) → Type 0
+WhenMade None P = Unit {0}
+WhenMade (Some r) P = P r.outcome
 
 abbrev pub OpenOrAbandoned : HeadCompletion → Type 0
 OpenOrAbandoned HeadCompletion.Open = Unit {0}
@@ -76,10 +72,10 @@ OpenOrAbandoned HeadCompletion.Superseded = ⊥
 OpenOrAbandoned HeadCompletion.Abandoned = Unit {0}
 
 -- installed, and one number higher than previous, where there is a previous one
-abbrev pub Follows : GenerationSlot → GenerationSlot → Type 0
-Follows installed GenerationSlot.Nothing = Unit {0}
-Follows GenerationSlot.Nothing (GenerationSlot.Held q) = ⊥
-Follows (GenerationSlot.Held g) (GenerationSlot.Held q) = q.anchor.number + 1 ≡ g.anchor.number
+abbrev pub Follows : Option Generation → Option Generation → Type 0
+Follows installed None = Unit {0}
+Follows None (Some q) = ⊥
+Follows (Some g) (Some q) = q.anchor.number + 1 ≡ g.anchor.number
 
 -- as an apply gives it: ready, or cold with link and skip, at least one of them a fault
 abbrev pub FromApply : HeadReadiness → Type 0
@@ -88,11 +84,11 @@ FromApply (HeadReadiness.Cold HeadCold.Unprepared) = ⊥
 FromApply (HeadReadiness.Cold HeadCold.Superseded) = ⊥
 FromApply (HeadReadiness.Cold HeadCold.Undelivered) = ⊥
 FromApply (HeadReadiness.Cold HeadCold.Abandoned) = ⊥
-FromApply (HeadReadiness.Cold (HeadCold.Settled link skip)) = both (is_linked link) (is_read skip) ≡ false
+FromApply (HeadReadiness.Cold (HeadCold.Settled link skip)) = (is_linked link && is_read skip) ≡ false
 
-abbrev pub ReadinessIs : HeadReadiness → GenerationSlot → Type 0
-ReadinessIs r GenerationSlot.Nothing = ⊥
-ReadinessIs r (GenerationSlot.Held g) = g.readiness ≡ r
+abbrev pub ReadinessIs : HeadReadiness → Option Generation → Type 0
+ReadinessIs r None = ⊥
+ReadinessIs r (Some g) = g.readiness ≡ r
 
 abbrev pub NotParked : Waiter → Type 0
 NotParked Waiter.Free = Unit {0}
@@ -113,12 +109,12 @@ pub record Ordered (l : HeadLifecycle) : Type 0 where
   pub preparing_attempt : WhenPreparing l.current (λ u. u.attempt ≡ minted l.claim_epoch)
   -- I3: settled: its attempt ended settled, and it is the installed one
   pub settled_end : WhenSettled l.current (λ s. s.attempt.end ≡ HeadCompletion.Settled)
-  pub settled_installed : WhenSettled l.current (λ s. slot_anchor l.installed ≡ AnchorSlot.At s.delivery.anchor)
+  pub settled_installed : WhenSettled l.current (λ s. slot_anchor l.installed ≡ Some s.delivery.anchor)
   -- I4: unsettled: not installed; unclaimed: open or abandoned
   pub unsettled_elsewhere : WhenUnsettled l.current (λ u. holds (slot_anchor l.installed) u.delivery.anchor ≡ false)
   pub unclaimed_end : WhenUnclaimed l.current (λ u. OpenOrAbandoned u.attempt.end)
   -- I5: no current head: superseded, installed, previous absent
-  pub absent_rest : WhenAbsent l.current ((l.superseded ≡ AnchorSlot.Nothing) × (l.installed ≡ GenerationSlot.Nothing) × (l.previous ≡ GenerationSlot.Nothing))
+  pub absent_rest : WhenAbsent l.current ((l.superseded ≡ None) × (l.installed ≡ None) × (l.previous ≡ None))
   -- I6: previous present: installed present, one number higher
   pub previous_below : Follows l.installed l.previous
   -- I8: installed and previous are ready, or cold with link and skip, at least one a fault; the same of an outcome in a report

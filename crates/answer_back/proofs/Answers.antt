@@ -1,4 +1,6 @@
 -- Every answer is read back.
+use Rattle.std.specs.Prelude.{Option}
+use Rattle.head_current.specs.declared.DeltaReport.{DeltaReport}
 use Prim.Native.Nat.{ℕ}
 use native.Mathlib.Omega.{arith}
 use mathlib.Core.List.{List, [], ◌++◌}
@@ -26,11 +28,9 @@ use Rattle.text.specs.Same.{same_text}
 use Rattle.text.specs.Words.{in_word, run}
 use Rattle.head_anchor.specs.declared.CarryOutcome.{CarryOutcome}
 use Rattle.head_anchor.specs.declared.Link.{Link}
-use Rattle.head_anchor.specs.declared.AnchorSlot.{AnchorSlot}
 use Rattle.head_anchor.specs.declared.ReadAnchor.{ReadAnchor}
 use Rattle.head_attempt.specs.declared.HeadCompletion.{HeadCompletion}
 use Rattle.head_count.specs.declared.HeadStats.{HeadStats}
-use Rattle.head_current.specs.declared.LastReport.{LastReport}
 use Rattle.head_driver.specs.declared.Answer.{Answer}
 use Rattle.head_ready.specs.declared.HeadOutcome.{HeadOutcome}
 use Rattle.head_ready.specs.declared.HeadView.{HeadView}
@@ -79,7 +79,7 @@ link_line_back : (link : Link) → Reads (ascii "link") (ascii " " ++ (link_text
 unfolding answer_named same_text word_text then map after after_byte run in_word
 link_line_back link = simp link_back
 
-report_line_back : (r : LastReport) → ReportFits r → Reads (ascii "report") (ascii " " ++ (report_text r ++ ascii ")\n")) (Answer.Report r)
+report_line_back : (r : Option DeltaReport) → ReportFits r → Reads (ascii "report") (ascii " " ++ (report_text r ++ ascii ")\n")) (Answer.Report r)
 unfolding answer_named same_text word_text then map after after_byte run in_word
 report_line_back r f = simp (report_back, f)
 
@@ -87,7 +87,7 @@ stats_line_back : (s : HeadStats) → StatsFit s → Reads (ascii "stats") (stat
 unfolding answer_named same_text word_text then map after after_byte run in_word
 stats_line_back s f = simp stats_back
 
-heads_back : (c i p : AnchorSlot) → SlotFits c → SlotFits i → SlotFits p
+heads_back : (c i p : Option ReadAnchor) → SlotFits c → SlotFits i → SlotFits p
     → Reads (ascii "heads") (ascii " " ++ (slot_text Page.Line c ++ (ascii " " ++ (slot_text Page.Line i ++ (ascii " " ++ (slot_text Page.Line p ++ ascii ")\n")))))) (Answer.Heads c i p)
 unfolding answer_named read_heads same_text word_text then after after_byte run in_word
 heads_back c i p f g h = simp (slot_back, f, g, h)

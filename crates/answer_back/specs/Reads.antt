@@ -1,6 +1,5 @@
 -- Reading an answer's line.
-use Rattle.std.specs.Prelude.{ℕ, List, eqb}
-use Rattle.hash.specs.Logic.{if}
+use Rattle.std.specs.Prelude.{ℕ, List, eqb, cond}
 use Rattle.head_anchor.specs.Words.{Word}
 use Rattle.head_count.specs.Counters.{epoch_of, seq_of}
 use Rattle.script_back.specs.Counters.{read_stats}
@@ -48,14 +47,14 @@ settled_by o = Answer.Outcome (HeadOutcome.Settled o)
 
 unfoldable pub refused_by : ℕ → Rest → Took Answer
 refused_by n r =
-    if (eqb n 2) (got Answer.ListAtOdds r)
-    (if (eqb n 3) (got Answer.WaiterOutOfRange r)
-    (if (eqb n 11) (map superseded_by (read_anchor Page.Line (after (ascii " ") r)))
-    (if (eqb n 12) (read_foreign r)
-    (if (eqb n 13) (got (Answer.Outcome HeadOutcome.AlreadySettled) r)
-    (if (eqb n 14) (got (Answer.Outcome HeadOutcome.InFlight) r)
-    (if (eqb n 15) (got Answer.WaiterTaken r)
-    (if (eqb n 16) (got Answer.WaiterFree r)
+    cond (eqb n 2) (got Answer.ListAtOdds r)
+    (cond (eqb n 3) (got Answer.WaiterOutOfRange r)
+    (cond (eqb n 11) (map superseded_by (read_anchor Page.Line (after (ascii " ") r)))
+    (cond (eqb n 12) (read_foreign r)
+    (cond (eqb n 13) (got (Answer.Outcome HeadOutcome.AlreadySettled) r)
+    (cond (eqb n 14) (got (Answer.Outcome HeadOutcome.InFlight) r)
+    (cond (eqb n 15) (got Answer.WaiterTaken r)
+    (cond (eqb n 16) (got Answer.WaiterFree r)
     (got Answer.Done stopped))))))))
 
 unfoldable pub read_refused : Rest → Took Answer
@@ -67,18 +66,18 @@ read_refused r =
 
 unfoldable pub answer_named : List ℕ → Rest → Took Answer
 answer_named w r =
-    if (same_text w (word_text Word.ticket)) (map (λ n. Answer.Ticket (seq_of n)) (spaced_number r))
-    (if (same_text w (word_text Word.claimed)) (map (λ n. Answer.Claimed (epoch_of n)) (spaced_number r))
-    (if (same_text w (word_text Word.done)) (got Answer.Done r)
-    (if (same_text w (word_text Word.settled)) (map settled_by (read_outcome (after (ascii " ") r)))
-    (if (same_text w (word_text Word.view)) (read_view r)
-    (if (same_text w (word_text Word.parked)) (got Answer.Parked r)
-    (if (same_text w (word_text Word.completion)) (map Answer.Completion (read_end (after (ascii " ") r)))
-    (if (same_text w (word_text Word.link)) (map Answer.Link (read_link (after (ascii " ") r)))
-    (if (same_text w (word_text Word.report)) (map Answer.Report (read_report (after (ascii " ") r)))
-    (if (same_text w (word_text Word.stats)) (map Answer.Stats (read_stats r))
-    (if (same_text w (word_text Word.heads)) (read_heads r)
-    (if (same_text w (word_text Word.refused)) (read_refused r)
+    cond (same_text w (word_text Word.ticket)) (map (λ n. Answer.Ticket (seq_of n)) (spaced_number r))
+    (cond (same_text w (word_text Word.claimed)) (map (λ n. Answer.Claimed (epoch_of n)) (spaced_number r))
+    (cond (same_text w (word_text Word.done)) (got Answer.Done r)
+    (cond (same_text w (word_text Word.settled)) (map settled_by (read_outcome (after (ascii " ") r)))
+    (cond (same_text w (word_text Word.view)) (read_view r)
+    (cond (same_text w (word_text Word.parked)) (got Answer.Parked r)
+    (cond (same_text w (word_text Word.completion)) (map Answer.Completion (read_end (after (ascii " ") r)))
+    (cond (same_text w (word_text Word.link)) (map Answer.Link (read_link (after (ascii " ") r)))
+    (cond (same_text w (word_text Word.report)) (map Answer.Report (read_report (after (ascii " ") r)))
+    (cond (same_text w (word_text Word.stats)) (map Answer.Stats (read_stats r))
+    (cond (same_text w (word_text Word.heads)) (read_heads r)
+    (cond (same_text w (word_text Word.refused)) (read_refused r)
     (got Answer.Done stopped))))))))))))
 
 -- a whole line, and what stands after its line feed

@@ -1,5 +1,5 @@
 -- Document 01, "Lines (added)", "Turned away by the input": a line's answer, the next driver and the sheet buffer.
-use Rattle.std.specs.Prelude.{ℕ, List, ◌≡◌}
+use Rattle.std.specs.Prelude.{ℕ, List, ◌≡◌, Option, Some, None}
 use Rattle.head_step.specs.Steps.{step}
 use Rattle.script_call.specs.Calls.{call}
 use Rattle.script_sheet.specs.Sheets.{sheet_text}
@@ -7,7 +7,6 @@ use Rattle.script_value.specs.Buffers.{buffer_after, written}
 use Rattle.head_driver.specs.declared.Driver.{Driver}
 use Rattle.head_driver.specs.declared.Reply.{Reply}
 use Rattle.script_call.specs.declared.LineCall.{LineCall}
-use Rattle.script_value.specs.declared.buffer.Written.{Written}
 use Rattle.script_answer.specs.declared.LineAnswer.{LineAnswer}
 use Rattle.driver.specs.declared.Turn.{Turn}
 
@@ -19,21 +18,21 @@ unfoldable pub made : Reply → Turn
 made reply = turn reply.driver (LineAnswer.Said reply.answer)
 
 -- 4 where the sheet buffer is shorter than 4,096 bytes
-unfoldable pub sheet_answer : Written → LineAnswer
-sheet_answer Written.TooShort = LineAnswer.SheetTooShort
-sheet_answer (Written.Bytes n) = LineAnswer.Sheet n
+unfoldable pub sheet_answer : Option ℕ → LineAnswer
+sheet_answer None = LineAnswer.SheetTooShort
+sheet_answer (Some n) = LineAnswer.Sheet n
 
 -- 1 where the line is no call, and state and buffer keep every byte; `(sheet)` writes the sheet and changes nothing else; a call is made, and leaves the buffer
-unfoldable pub turn_of : Driver → LineCall → List ℕ → Turn
-turn_of d LineCall.NoCall buf = turn d LineAnswer.NoCall
-turn_of d LineCall.Sheet buf = turn d (sheet_answer (written 4096 buf (sheet_text d)))
-turn_of d (LineCall.Make c) buf = made (step d c)
+unfoldable pub turn_of : Driver → Option LineCall → List ℕ → Turn
+turn_of d None buf = turn d LineAnswer.NoCall
+turn_of d (Some LineCall.Sheet) buf = turn d (sheet_answer (written 4096 buf (sheet_text d)))
+turn_of d (Some (LineCall.Make c)) buf = made (step d c)
 
 -- bytes after the sheet keep their content
-unfoldable pub sheet_after : Driver → LineCall → List ℕ → List ℕ
-sheet_after d LineCall.NoCall buf = buf
-sheet_after d LineCall.Sheet buf = buffer_after 4096 buf (sheet_text d)
-sheet_after d (LineCall.Make c) buf = buf
+unfoldable pub sheet_after : Driver → Option LineCall → List ℕ → List ℕ
+sheet_after d None buf = buf
+sheet_after d (Some LineCall.Sheet) buf = buffer_after 4096 buf (sheet_text d)
+sheet_after d (Some (LineCall.Make c)) buf = buf
 
 -- what is promised of a line, the sheet buffer as it was and as it is, and the turn
 pub record Takes (d : Driver) (line old new : List ℕ) (r : Turn) : Type 0 where

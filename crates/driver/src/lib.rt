@@ -10,7 +10,6 @@ use head_step::head_lifecycle::step;
 pub use script_answer::{LineAnswer, put_line};
 use script_call::{LineCall, read_call};
 use script_sheet::put_sheet;
-use script_value::buffer::Written;
 
 #[derive(Clone, Copy)]
 pub struct Turn {
@@ -22,38 +21,38 @@ pub struct Turn {
 pub(crate) fn made(reply: Reply) -> Turn
     ensures { result ≡ made reply }
 {
-    let driver = reply.driver;
-    let answer = reply.answer;
     Turn {
-        driver,
-        answer: LineAnswer::Said(answer),
+        driver: reply.driver,
+        answer: LineAnswer::Said(reply.answer),
     }
 }
 
 #[tactic(auto, unfolding(crate::specs::Turns::sheet_answer))]
-pub(crate) fn sheet_answer(written: Written) -> LineAnswer
+pub(crate) fn sheet_answer(written: Option<usize>) -> LineAnswer
     ensures { result ≡ sheet_answer written }
 {
     match written {
-        Written::TooShort => LineAnswer::SheetTooShort,
-        Written::Bytes(n) => LineAnswer::Sheet(n),
+        None => LineAnswer::SheetTooShort,
+        Some(n) => LineAnswer::Sheet(n),
     }
 }
 
 // A line without its line feed. Only `(sheet)` looks at the sheet buffer.
-#[tactic(auto, using(crate::proofs::Taken::took_call, crate::proofs::Taken::took_no_call, crate::proofs::Taken::took_sheet))]
+// Kept out of its caller: inlined there it costs one copy of the driver more for each line.
+#[tactic(auto, unfolding(crate::specs::Turns::turn_of, crate::specs::Turns::sheet_after))]
+#[inline(never)]
 pub fn take_line(d: Driver, line: &[u8], sheet: &mut [u8]) -> Turn
     ensures { Takes d line.now sheet.old sheet.new result }
 {
     match read_call(line) {
-        LineCall::NoCall => Turn {
+        None => Turn {
             driver: d,
             answer: LineAnswer::NoCall,
         },
-        LineCall::Sheet => Turn {
+        Some(LineCall::Sheet) => Turn {
             driver: d,
             answer: sheet_answer(put_sheet(sheet, d)),
         },
-        LineCall::Make(call) => made(step(d, call)),
+        Some(LineCall::Make(call)) => made(step(d, call)),
     }
 }

@@ -4,6 +4,7 @@ use mathlib.Core.List.{List, [], ◌∷◌, append-nil}
 use mathlib.Core.Path.{◌≡◌, refl, ap, ap₂, ◌∙◌}
 use lib.ListN.{length}
 use borrow.Author.Tests.{le-ltb}
+use Rattle.std.specs.Prelude.{Option, Some, None}
 use Rattle.driver.specs.Turns.{made, sheet_answer, turn_of}
 use Rattle.head_driver.specs.New.{new}
 use Rattle.head_step.specs.Steps.{step}
@@ -24,15 +25,15 @@ use Rattle.edges.proofs.Opened.{opened}
 -- ---- without the buffer
 
 -- what a line prints
-unfoldable plain : Driver → LineCall → List ℕ
-plain d LineCall.NoCall = ascii "(refused 1)\n"
-plain d LineCall.Sheet = sheet_text d
-plain d (LineCall.Make c) = answer_line (step d c).answer
+unfoldable plain : Driver → Option LineCall → List ℕ
+plain d None = ascii "(refused 1)\n"
+plain d (Some LineCall.Sheet) = sheet_text d
+plain d (Some (LineCall.Make c)) = answer_line (step d c).answer
 
-unfoldable next : Driver → LineCall → Driver
-next d LineCall.NoCall = d
-next d LineCall.Sheet = d
-next d (LineCall.Make c) = (step d c).driver
+unfoldable next : Driver → Option LineCall → Driver
+next d None = d
+next d (Some LineCall.Sheet) = d
+next d (Some (LineCall.Make c)) = (step d c).driver
 
 unfoldable plainly : Driver → List Line → List (List ℕ)
 plainly d [] = []
@@ -40,25 +41,25 @@ plainly d (l ∷ ls) = plain d (call l.line) ∷ plainly (next d (call l.line)) 
 
 module _ (buffer : List ℕ) (room : 4096 ≤ length buffer) where
   -- a sheet has no answer line
-  no_line : (d : Driver) → line_text (turn_of d LineCall.Sheet buffer).answer ≡ []
+  no_line : (d : Driver) → line_text (turn_of d (Some LineCall.Sheet) buffer).answer ≡ []
   unfolding turn_of sheet_answer written line_text
   no_line d = rw (le-ltb (length buffer) 4096 room)
 
-  sheet_plain : (d : Driver) → printed buffer d LineCall.Sheet ≡ sheet_text d
+  sheet_plain : (d : Driver) → printed buffer d (Some LineCall.Sheet) ≡ sheet_text d
   unfolding printed
   sheet_plain d = rw (no_line d) (sheet_wrote d buffer room)
 
-  printed_plain : (d : Driver) (q : LineCall) → printed buffer d q ≡ plain d q
+  printed_plain : (d : Driver) (q : Option LineCall) → printed buffer d q ≡ plain d q
   unfolding printed plain turn_of made line_text wrote_of to_last_line_feed
-  printed_plain d LineCall.NoCall = refl
-  printed_plain d LineCall.Sheet = sheet_plain d
-  printed_plain d (LineCall.Make c) = append-nil (answer_line (step d c).answer)
+  printed_plain d None = refl
+  printed_plain d (Some LineCall.Sheet) = sheet_plain d
+  printed_plain d (Some (LineCall.Make c)) = append-nil (answer_line (step d c).answer)
 
-  next_driver : (d : Driver) (q : LineCall) → (turn_of d q buffer).driver ≡ next d q
+  next_driver : (d : Driver) (q : Option LineCall) → (turn_of d q buffer).driver ≡ next d q
   unfolding turn_of made next
-  next_driver d LineCall.NoCall = refl
-  next_driver d LineCall.Sheet = refl
-  next_driver d (LineCall.Make c) = refl
+  next_driver d None = refl
+  next_driver d (Some LineCall.Sheet) = refl
+  next_driver d (Some (LineCall.Make c)) = refl
 
   run_plain : (d : Driver) (ls : List Line) → printed_by buffer d ls ≡ plainly d ls
   unfolding printed_by plainly

@@ -63,7 +63,7 @@ use Rattle.script_sheet.specs.Sheets
 
 -- anchors, links and lists
 unfoldable anchors : Unit {0}
-unfolding Hashes.same_hash Anchors.same_block_hash Anchors.same_anchor Anchors.holds Links.follows Links.link_by_hash Links.classify_link Lists.has_hash Lists.is_no_hash
+unfolding Hashes.same_hash Anchors.same_anchor Anchors.holds Links.follows Links.link_by_hash Links.classify_link Lists.is_no_hash
     Lists.as_prepared Lists.is_linked Lists.is_read Lists.outcome Lists.apply_prepared AnchorValues.block_hash_value AnchorValues.anchor_value AnchorValues.slot_value
     AnchorValues.link_value AnchorValues.fault_value AnchorValues.skip_value AnchorValues.outcome_value
 anchors = tt

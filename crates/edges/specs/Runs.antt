@@ -1,5 +1,5 @@
 -- What lines print, one after another.
-use Rattle.std.specs.Prelude.{ℕ, List, [], ◌∷◌, ◌++◌}
+use Rattle.std.specs.Prelude.{ℕ, List, [], ◌∷◌, ◌++◌, Option}
 use Rattle.driver.specs.Turns.{sheet_after, turn_of}
 use Rattle.script_answer.specs.Answers.{line_text}
 use Rattle.rules.specs.Sheets.{to_last_line_feed, wrote_of}
@@ -13,7 +13,7 @@ pub record Line : Type 0 where
   pub prints : List ℕ
 
 -- the answer's line; of `(sheet)`, what it writes into the sheet buffer, up to its last line feed
-unfoldable pub printed : List ℕ → Driver → LineCall → List ℕ
+unfoldable pub printed : List ℕ → Driver → Option LineCall → List ℕ
 printed buffer d q = line_text (turn_of d q buffer).answer ++ to_last_line_feed (wrote_of (turn_of d q buffer).answer (sheet_after d q buffer))
 
 -- what the lines of a run print, each line given the driver that the one before it left

@@ -7,35 +7,24 @@ use mathlib.Core.Path.{◌≡◌, refl, ap, sym, ◌∙◌}
 use mathlib.Core.List.{List, [], ◌∷◌, ◌++◌, map, append_assoc, append-nil}
 use lib.ListN.{length, take, drop, get_or, set, length-set, length-take, drop_of_length-le}
 use lib.Seq.{drop-cons, take-suc-set, take_all}
+use Rattle.std.specs.Prelude.{Option, Some, None, unwrap_or}
 use Rattle.hash.specs.declared.Hash.{Hash}
 use Rattle.text.specs.Digits.{read_on}
-use Rattle.text.specs.declared.decimal.Number.{Number}
 use Rattle.hash_text.specs.Hex.{glyph, hex_on, hex, hex_text, digit_value, hex_more, hex_number, joined}
 use Rattle.hash_text.specs.LineHashes.{line_hash, line_hash_text}
-use Rattle.hash_text.specs.declared.Digit.{Digit}
-use Rattle.hash_text.specs.declared.HashWord.{HashWord}
 use Rattle.hash_text.proofs.HexRead.{value_glyph, more_value, hash_long}
 use Rattle.hash_text.proofs.Only.{line_hash_only}
-use Rattle.hash_read.specs.Values.{shown, value_of, largest, number_on}
+use Rattle.hash_read.specs.Values.{value_of, largest, number_on}
 
 -- ---- one byte
 
-module _ (b : ℕ) (g : Digit) (e : g ≡ digit_value b) where
-  pub value_digit : (d : ℕ) → g ≡ Digit.Value d → d ≡ value_of b
-  unfolding value_of shown
-  value_digit d f = rw (← e, f)
-
-  pub value_none : g ≡ Digit.Bad → 255 ≡ value_of b
-  unfolding value_of shown
-  value_none f = rw (← e, f)
-
-small_digit : (b : ℕ) → value_of b ≤ 15 → Digit.Value (value_of b) ≡ digit_value b
-unfolding value_of shown
+small_digit : (b : ℕ) → value_of b ≤ 15 → Some (value_of b) ≡ digit_value b
+unfolding value_of
 small_digit b = go (digit_value b)
   where
-    go : (g : Digit) → shown g ≤ 15 → Digit.Value (shown g) ≡ g
-    go (Digit.Value d) h = refl
-    go Digit.Bad h = absurd (omega arith)
+    go : (g : Option ℕ) → unwrap_or g 255 ≤ 15 → Some (unwrap_or g 255) ≡ g
+    go (Some d) h = refl
+    go None h = absurd (omega arith)
 
 -- ---- the loop of `put_values`: what is laid out, and the values of what is left, are the values of all
 
@@ -88,7 +77,7 @@ module _ (s : List ℕ) (n i w : ℕ) (k : number_on n (drop i s) ≡ w) where
 -- ---- digits say the number of their values
 
 record Says (n : ℕ) (s : List ℕ) : Type 0 where
-  number : read_on hex_more (Number.Value n) s ≡ Number.Value (number_on n (map value_of s))
+  number : read_on hex_more (Some n) s ≡ Some (number_on n (map value_of s))
   below : number_on n (map value_of s) < 2 ^ 64
 
 powers : (k m : ℕ) → k ≤ m → 16 ^ k ≤ 16 ^ m
@@ -133,7 +122,7 @@ part s i h = says 0 0 (take 16 (drop i s)) (omega arith) (rw length-take (omega 
 -- ---- a hash's text has no other bytes than digits
 
 glyph_small : (d : ℕ) → d < 16 → value_of (glyph d) ≤ 15
-unfolding value_of shown
+unfolding value_of
 glyph_small d h = rw (← value_glyph d h) (omega arith)
 
 largest_both : (s t : List ℕ) → largest s ≤ 15 → largest t ≤ 15 → largest (s ++ t) ≤ 15
@@ -157,21 +146,21 @@ largest_text h = largest_both _ _ (largest_hex h.w0) (largest_both _ _ (largest_
 -- ---- a word
 
 module _ (s vs : List ℕ) (most : ℕ) (e : vs ≡ map value_of s) (f : most ≡ largest s) where
-  pub not_digits : 15 < most → HashWord.Bad ≡ line_hash s
+  pub not_digits : 15 < most → None ≡ line_hash s
   not_digits h = go (line_hash s) refl
     where
-      go : (r : HashWord) → line_hash s ≡ r → HashWord.Bad ≡ r
-      go HashWord.Bad p = refl
-      go (HashWord.Value w) p = absurd (omega (arith, largest_text w, ap largest (line_hash_only s w p).0))
+      go : (r : Option Hash) → line_hash s ≡ r → None ≡ r
+      go None p = refl
+      go (Some w) p = absurd (omega (arith, largest_text w, ap largest (line_hash_only s w p).0))
 
   module _ (h : most ≤ 15) where
     pub part_below : (i : ℕ) → number_on 0 (take 16 (drop i vs)) < 2 ^ 64
     part_below i = rw (e, map_drop i s, map_take 16 (drop i s)) (part s i (omega arith)).below
 
-    part_number : (i n : ℕ) → n ≡ number_on 0 (take 16 (drop i vs)) → Number.Value n ≡ hex_number (take 16 (drop i s))
+    part_number : (i n : ℕ) → n ≡ number_on 0 (take 16 (drop i vs)) → Some n ≡ hex_number (take 16 (drop i s))
     unfolding hex_number
     part_number i n p = rw (p, e, map_drop i s, map_take 16 (drop i s)) (sym (part s i (omega arith)).number)
 
-    pub all_digits : (a b c d : ℕ) → length s ≡ 64 → a ≡ number_on 0 (take 16 (drop 0 vs)) → b ≡ number_on 0 (take 16 (drop 16 vs)) → c ≡ number_on 0 (take 16 (drop 32 vs)) → d ≡ number_on 0 (take 16 (drop 48 vs)) → HashWord.Value (record { w0 = a; w1 = b; w2 = c; w3 = d }) ≡ line_hash s
+    pub all_digits : (a b c d : ℕ) → length s ≡ 64 → a ≡ number_on 0 (take 16 (drop 0 vs)) → b ≡ number_on 0 (take 16 (drop 16 vs)) → c ≡ number_on 0 (take 16 (drop 32 vs)) → d ≡ number_on 0 (take 16 (drop 48 vs)) → Some (record { w0 = a; w1 = b; w2 = c; w3 = d }) ≡ line_hash s
     unfolding line_hash joined
-    all_digits a b c d l p q r t = hash_long s (Number.Value a) (Number.Value b) (Number.Value c) (Number.Value d) _ l (part_number 0 a p) (part_number 16 b q) (part_number 32 c r) (part_number 48 d t) refl
+    all_digits a b c d l p q r t = hash_long s (Some a) (Some b) (Some c) (Some d) _ l (part_number 0 a p) (part_number 16 b q) (part_number 32 c r) (part_number 48 d t) refl

@@ -1,15 +1,10 @@
 -- The way of `read_hash`: the values of all digits first, with the largest of them, then the numbers.
-use Rattle.std.specs.Prelude.{ℕ, ◌+◌, ◌*◌, max, List, [], ◌∷◌}
+use Rattle.std.specs.Prelude.{ℕ, ◌+◌, ◌*◌, max, List, [], ◌∷◌, unwrap_or}
 use Rattle.hash_text.specs.Hex.{digit_value}
-use Rattle.hash_text.specs.declared.Digit.{Digit}
 
--- a value; 255, which is above all of them, where there is none
-unfoldable pub shown : Digit → ℕ
-shown (Digit.Value d) = d
-shown Digit.Bad = 255
-
+-- the value of a digit; 255, which is above all of them, where there is none
 unfoldable pub value_of : ℕ → ℕ
-value_of b = shown (digit_value b)
+value_of b = unwrap_or (digit_value b) 255
 
 -- the largest value of a row of bytes
 unfoldable pub largest : List ℕ → ℕ

@@ -8,34 +8,24 @@ ghost use Rattle.hash_text.specs.LineHashes.{line_hash};
 ghost use Rattle.hash_read.specs.Values.{value_of, largest, number_on};
 
 use hash::Hash;
-use hash_text::{Digit, HashWord};
 
 #[tactic(auto, using(hash_text::proofs::HexRead::value_decimal, hash_text::proofs::HexRead::value_letter, hash_text::proofs::HexRead::value_low, hash_text::proofs::HexRead::value_middle, hash_text::proofs::HexRead::value_high))]
-pub(crate) fn digit_value(b: u8) -> Digit
+pub(crate) fn digit_value(b: u8) -> Option<u8>
     ensures { result ≡ digit_value b }
 {
     match b {
-        b'0'..=b'9' => Digit::Value((b - b'0') as u64),
-        b'a'..=b'f' => Digit::Value((b - b'a') as u64 + 10),
-        _ => Digit::Bad,
+        b'0'..=b'9' => Some(b - b'0'),
+        b'a'..=b'f' => Some(b - b'a' + 10),
+        _ => None,
     }
 }
 
-// A digit's value, and 255 for a byte that is none: a number and no enum, so that the loop over a word's bytes has no branch.
-#[tactic(auto, using(hash_text::proofs::HexRead::digit_small, crate::proofs::Values::value_digit, crate::proofs::Values::value_none))]
+// A digit's value, and 255 for a byte that is none: a number, so that the loop over a word's bytes has no branch.
+#[tactic(auto, unfolding(crate::specs::Values::value_of))]
 pub(crate) fn value_of(b: u8) -> u8
     ensures { result ≡ value_of b }
 {
-    match digit_value(b) {
-        Digit::Value(d) => d as u8,
-        Digit::Bad => 255,
-    }
-}
-
-pub(crate) fn larger(a: u8, b: u8) -> u8
-    ensures { result ≡ max a b }
-{
-    if a < b { b } else { a }
+    digit_value(b).unwrap_or(255)
 }
 
 // Lays out the values of a word's bytes, and hands back the largest, which tells whether all are digits. No byte ends the loop
@@ -46,13 +36,11 @@ pub(crate) fn put_values(word: &[u8], values: &mut [u8]) -> u8
     ensures values_after { values.new ≡ map value_of word.now }
     ensures value { result ≡ largest word.now }
 {
-    let mut most = 0;
-    let mut i = 0;
-    while i < word.len() {
-        let v = value_of(word[i]);
+    let mut most: u8 = 0;
+    for (i, b) in word.iter().enumerate() {
+        let v = value_of(*b);
         values[i] = v;
-        most = larger(most, v);
-        i += 1;
+        most = most.max(v);
     }
     most
 }
@@ -64,10 +52,8 @@ pub(crate) fn number(values: &[u8]) -> u64
     ensures { result ≡ number_on 0 values.now }
 {
     let mut n = 0;
-    let mut i = 0;
-    while i < values.len() {
-        n = n * 16 + values[i] as u64;
-        i += 1;
+    for v in values {
+        n = n * 16 + *v as u64;
     }
     n
 }
@@ -75,19 +61,19 @@ pub(crate) fn number(values: &[u8]) -> u64
 // What a word of a line says as a hash: sixteen digits for each of the four 64-bit words. For a caller that has the word in hand,
 // since it may as well be a keyword.
 #[tactic(auto, using(hash_text::proofs::HexRead::hash_short, crate::proofs::Values::not_digits, crate::proofs::Values::part_below, crate::proofs::Values::all_digits), unfolding(hash_text::specs::LineHashes::line_hash))]
-pub fn read_hash(word: &[u8]) -> HashWord
+pub fn read_hash(word: &[u8]) -> Option<Hash>
     ensures { result ≡ line_hash word.now }
 {
     if word.len() != 64 {
-        return HashWord::Bad;
+        return None;
     }
     let mut values = [0u8; 64];
     if put_values(word, &mut values) > 15 {
-        return HashWord::Bad;
+        return None;
     }
     let w0 = number(&values[0..16]);
     let w1 = number(&values[16..32]);
     let w2 = number(&values[32..48]);
     let w3 = number(&values[48..64]);
-    HashWord::Value(Hash { w0, w1, w2, w3 })
+    Some(Hash { w0, w1, w2, w3 })
 }

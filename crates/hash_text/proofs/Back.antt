@@ -4,6 +4,7 @@ use mathlib.Core.Path.{◌≡◌, sym, ◌∙◌}
 use mathlib.Core.Bool.{false}
 use mathlib.Core.List.{List, ◌++◌}
 use lib.ListN.{length}
+use Rattle.std.specs.Prelude.{Some}
 use Rattle.hash.specs.declared.Hash.{Hash}
 use Rattle.text.specs.Words.{run}
 use Rattle.text.specs.Rests.{at, says}
@@ -13,7 +14,6 @@ use Rattle.hash_text.specs.LineHashes.{line_hash_text, line_hash}
 use Rattle.hash_text.specs.SheetHashes.{sheet_hash_text, sheet_hash}
 use Rattle.hash_text.specs.Reads.{hash_got, read_hash, read_sheet_hash}
 use Rattle.hash.specs.Ranges.{HashFits}
-use Rattle.hash_text.specs.declared.HashWord.{HashWord}
 use Rattle.hash_text.proofs.HexRead.{length-hex_text, run-hex_text, read-hex_text}
 
 -- ---- hashes on a line
@@ -26,7 +26,7 @@ run_line_hash : (h : Hash) → run (line_hash_text h) ≡ length (line_hash_text
 unfolding line_hash_text
 run_line_hash h = run-hex_text _
 
-read_line_hash : (h : Hash) → HashFits h → line_hash (line_hash_text h) ≡ HashWord.Value h
+read_line_hash : (h : Hash) → HashFits h → line_hash (line_hash_text h) ≡ Some h
 unfolding line_hash line_hash_text
 read_line_hash h f = read-hex_text _ f
 
@@ -51,7 +51,7 @@ run_sheet_hash : (h : Hash) → run (sheet_hash_text h) ≡ length (sheet_hash_t
 unfolding sheet_hash_text
 run_sheet_hash h = run-hex_text _
 
-read_sheet_hash_lem : (h : Hash) → HashFits h → sheet_hash (sheet_hash_text h) ≡ HashWord.Value h
+read_sheet_hash_lem : (h : Hash) → HashFits h → sheet_hash (sheet_hash_text h) ≡ Some h
 unfolding sheet_hash sheet_hash_text
 read_sheet_hash_lem h f = read-hex_text _ f
 

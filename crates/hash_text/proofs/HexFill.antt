@@ -1,31 +1,43 @@
--- The loop of `put_hex`, which fills sixteen places from the back.
-use Prim.Native.Nat.{ℕ, zero, suc, ◌-◌, ◌/◌, ◌%◌, ◌≤◌, ◌<◌}
+-- The library's hexadecimal text of a number's bytes is its sixteen digits.
+use Prim.Native.Nat.{ℕ, ◌/◌, ◌%◌, ◌<◌}
+use native.Mathlib.Nat.{div-div-eq-div-mul, zero-add}
 use native.Mathlib.Omega.{arith}
-use mathlib.Core.Path.{◌≡◌}
-use mathlib.Core.List.{List, []}
-use lib.ListN.{length, drop, set, length-set}
+use mathlib.Core.Bool.{Bool, true}
+use mathlib.Core.Path.{◌≡◌, refl}
+use lib.Dec.{eqb}
+use lib.ListN.{length, get_or}
+use borrow.Author.Tests.{eqb-true}
+use Rattle.std.specs.Int.{w64, to_be_bytes}
+use Rattle.std.specs.List.{slice_index, list_all, range_with_len}
+use Rattle.std.proofs.lemmas.List.Sums.{AllPass-from_list_all}
+use Rattle.std.proofs.lemmas.List.Elements.{All-get_or}
+use Rattle.std.proofs.lemmas.List.FromFn.{get_or-range_with_len}
+use Rattle.hex.specs.Hex.{encode_lower, encode_with, lower_digits}
 use Rattle.hash_text.specs.Hex.{hex, hex_on, glyph}
-use Rattle.text_put.proofs.Fill.{drop_set_same}
 
--- what is left to write, in front of what is written, is n
-pub record Filled (n : ℕ) (ds : List ℕ) (i rest : ℕ) : Type 0 where
-  pub place : i ≤ 16
-  pub long : length ds ≡ 16
-  pub same : hex_on i rest (drop i ds) ≡ hex n
+unfoldable agrees : ℕ → Bool
+agrees d = eqb (slice_index lower_digits d) (glyph d)
 
-pub filled_start : (n : ℕ) (ds : List ℕ) → length ds ≡ 16 → drop 16 ds ≡ [] → Filled n ds 16 n
-unfolding hex
-filled_start n ds l e = record { place = omega arith; long = l; same = rw e }
+table : list_all agrees (range_with_len 0 16) ≡ true
+unfolding glyph agrees
+table = refl
 
-pub filled_more : {n : ℕ} (ds : List ℕ) (i rest x : ℕ) → Filled n ds i rest → 0 < i → x ≡ glyph (rest % 16) → Filled n (set ds (i - 1) x) (i - 1) (rest / 16)
-unfolding hex_on
-filled_more ds zero rest x f h g = absurd (omega arith)
-filled_more ds (suc i) rest x f h g =
-    let e : suc i - 1 ≡ i = omega arith in
-    let inside : i < length ds = omega arith in
-    rw e (record { place = omega arith; long = rw length-set f.long; same = rw (drop_set_same ds i, g) f.same })
+digit : (d : ℕ) → d < 16 → slice_index lower_digits d ≡ glyph d
+unfolding agrees
+digit d h =
+    let e : agrees (get_or (range_with_len 0 16) d 0) ≡ true = All-get_or (λ x. agrees x ≡ true) (range_with_len 0 16) d 0 h (AllPass-from_list_all agrees (range_with_len 0 16) table) in
+    eqb-true (slice_index lower_digits d) (glyph d) (rw (get_or-range_with_len 0 16 d 0 h, zero-add) at e)
 
-pub filled_done : {n : ℕ} (ds : List ℕ) (i rest : ℕ) → Filled n ds i rest → i ≤ 0 → ds ≡ hex n
-unfolding hex_on
-filled_done ds zero rest f h = f.same
-filled_done ds (suc i) rest f h = absurd (omega arith)
+high : (m : ℕ) → slice_index lower_digits (m % 256 / 16) ≡ glyph (m / 16 % 16)
+high m = let e : m % 256 / 16 ≡ m / 16 % 16 = omega arith in rw e (digit (m / 16 % 16) (omega arith))
+
+low : (m : ℕ) → slice_index lower_digits (m % 256 % 16) ≡ glyph (m % 16)
+low m = let e : m % 256 % 16 ≡ m % 16 = omega arith in rw e (digit (m % 16) (omega arith))
+
+pub hex_is : (n : ℕ) → encode_lower (to_be_bytes w64 n) ≡ hex n
+unfolding hex hex_on encode_with
+hex_is n = simp (high, low, div-div-eq-div-mul)
+
+pub hex_long : (n : ℕ) → length (encode_lower (to_be_bytes w64 n)) ≡ 16
+unfolding encode_with
+hex_long n = refl

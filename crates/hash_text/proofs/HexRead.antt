@@ -10,36 +10,34 @@ use mathlib.Core.List.{List, [], ◌∷◌, ◌++◌}
 use lib.ListN.{length, take, drop, length-append}
 use lib.Seq.{take_at, drop_at, drop-drop, take-length}
 use borrow.Author.Tests.{eq-eqb, ne_eqb, lt-ltb, le-ltb, le-leb, lt-leb}
+use Rattle.std.specs.Prelude.{Option, Some, None}
 use Rattle.hash.specs.declared.Hash.{Hash}
 use Rattle.text.specs.Words.{run, in_word}
 use Rattle.hash_text.specs.Hex.{glyph, hex_on, hex, hex_text, digit_value, join_digit, hex_more, hex_number, joined, hex_hash}
 use Rattle.text.specs.Digits.{read_on}
 use Rattle.hash.specs.Ranges.{HashFits}
-use Rattle.text.specs.declared.decimal.Number.{Number}
-use Rattle.hash_text.specs.declared.Digit.{Digit}
-use Rattle.hash_text.specs.declared.HashWord.{HashWord}
 use Rattle.text.proofs.Words.{run_cons, run_both, in_word_above}
 
 -- ---- one byte
 
 module _ (b : ℕ) where
-  pub value_decimal : (d : ℕ) → 48 ≤ b → b ≤ 57 → d ≡ b - 48 → Digit.Value d ≡ digit_value b
+  pub value_decimal : (d : ℕ) → 48 ≤ b → b ≤ 57 → d ≡ b - 48 → Some d ≡ digit_value b
   unfolding digit_value
   value_decimal d p q e = simp (le-leb 48 b p, le-leb b 57 q, e)
 
-  pub value_letter : (d : ℕ) → 97 ≤ b → b ≤ 102 → d ≡ b - 97 + 10 → Digit.Value d ≡ digit_value b
+  pub value_letter : (d : ℕ) → 97 ≤ b → b ≤ 102 → d ≡ b - 97 + 10 → Some d ≡ digit_value b
   unfolding digit_value
   value_letter d p q e = simp (le-leb 48 b (omega arith), lt-leb b 57 (omega arith), le-leb 97 b p, le-leb b 102 q, e)
 
-  pub value_low : b < 48 → Digit.Bad ≡ digit_value b
+  pub value_low : b < 48 → None ≡ digit_value b
   unfolding digit_value
   value_low p = simp (lt-leb 48 b p)
 
-  pub value_middle : 57 < b → b < 97 → Digit.Bad ≡ digit_value b
+  pub value_middle : 57 < b → b < 97 → None ≡ digit_value b
   unfolding digit_value
   value_middle p q = simp (le-leb 48 b (omega arith), lt-leb b 57 p, lt-leb 97 b q)
 
-  pub value_high : 102 < b → Digit.Bad ≡ digit_value b
+  pub value_high : 102 < b → None ≡ digit_value b
   unfolding digit_value
   value_high p = simp (le-leb 48 b (omega arith), lt-leb b 57 (omega arith), le-leb 97 b (omega arith), lt-leb b 102 p)
 
@@ -48,7 +46,7 @@ pub record IsDigit (b d : ℕ) : Type 0 where
   pub small : d < 16
   pub byte : glyph d ≡ b
 
-pub digit_is : (b d : ℕ) → digit_value b ≡ Digit.Value d → IsDigit b d
+pub digit_is : (b d : ℕ) → digit_value b ≡ Some d → IsDigit b d
 unfolding glyph
 digit_is b d e =
     by_cases (dec_lt b 48) (λ h. none (value_low b h)) (λ h₀.
@@ -65,39 +63,36 @@ digit_is b d e =
     let y : 48 + d ≡ b = omega arith in
     record { small = omega arith; byte = rw (lt-ltb d 10 (omega arith)) y }))
   where
-    none : Digit.Bad ≡ digit_value b → IsDigit b d
-    none f = let z : ◌≡◌ {A = ℕ} 0 1 = cc in absurd (omega arith)
+    none : None ≡ digit_value b → IsDigit b d
+    none f = cc
 
-pub more_value : (n b d : ℕ) → Digit.Value d ≡ digit_value b → n < 2 ^ 60 → Number.Value (n * 16 + d) ≡ hex_more (Number.Value n) b
+pub more_value : (n b d : ℕ) → Some d ≡ digit_value b → n < 2 ^ 60 → Some (n * 16 + d) ≡ hex_more (Some n) b
 unfolding hex_more join_digit
 more_value n b d e h = rw (← e, lt-ltb n (2 ^ 60) h)
 
-pub digit_small : (b d : ℕ) (g : Digit) → g ≡ digit_value b → g ≡ Digit.Value d → d < 16
-digit_small b d g e f = (digit_is b d (sym e ∙ f)).small
-
-pub more_bad : (b : ℕ) → hex_more Number.Bad b ≡ Number.Bad
+pub more_bad : (b : ℕ) → hex_more None b ≡ None
 unfolding hex_more
 more_bad b = refl
 
 -- ---- what was written is read back
 
-pub value_glyph : (d : ℕ) → d < 16 → Digit.Value d ≡ digit_value (glyph d)
+pub value_glyph : (d : ℕ) → d < 16 → Some d ≡ digit_value (glyph d)
 unfolding glyph
 value_glyph d h =
     by_cases (dec_lt d 10)
     (λ p. simp (lt-ltb d 10 p) (value_decimal (48 + d) d (omega arith) (omega arith) (omega arith)))
     (λ p. simp (le-ltb d 10 (omega arith)) (value_letter (97 + (d - 10)) d (omega arith) (omega arith) (omega arith)))
 
-read-hex_on : (k n : ℕ) (s : List ℕ) → n < 16 ^ k → n < 2 ^ 64 → read_on hex_more (Number.Value 0) (hex_on k n s) ≡ read_on hex_more (Number.Value n) s
+read-hex_on : (k n : ℕ) (s : List ℕ) → n < 16 ^ k → n < 2 ^ 64 → read_on hex_more (Some 0) (hex_on k n s) ≡ read_on hex_more (Some n) s
 unfolding hex_on read_on
 read-hex_on zero n s h l = let e : n ≡ 0 = omega arith in rw e
 read-hex_on (suc k) n s h l =
     let g : n < 16 ^ k * 16 = rw (pow-suc 16 k) at h in
     let e : n / 16 * 16 + n % 16 ≡ n = omega arith in
     read-hex_on k (n / 16) (glyph (n % 16) ∷ s) (omega arith) (omega arith)
-    ∙ ap (λ (r : Number). read_on hex_more r s) (sym (more_value (n / 16) (glyph (n % 16)) (n % 16) (value_glyph (n % 16) (omega arith)) (omega arith)) ∙ ap Number.Value e)
+    ∙ ap (λ (r : Option ℕ). read_on hex_more r s) (sym (more_value (n / 16) (glyph (n % 16)) (n % 16) (value_glyph (n % 16) (omega arith)) (omega arith)) ∙ ap Some e)
 
-read-hex : (n : ℕ) → n < 2 ^ 64 → hex_number (hex n) ≡ Number.Value n
+read-hex : (n : ℕ) → n < 2 ^ 64 → hex_number (hex n) ≡ Some n
 unfolding hex_number hex read_on
 read-hex n h = read-hex_on 16 n [] h h
 
@@ -131,11 +126,11 @@ run-hex n = run-hex_on 16 n [] refl
 -- ---- hashes
 
 module _ (s : List ℕ) where
-  pub hash_short : (length s ≡ 64 → ⊥) → HashWord.Bad ≡ hex_hash s
+  pub hash_short : (length s ≡ 64 → ⊥) → None ≡ hex_hash s
   unfolding hex_hash
   hash_short h = rw (ne_eqb (length s) 64 h)
 
-  pub hash_long : (a b c d : Number) (r : HashWord) → length s ≡ 64 → a ≡ hex_number (take 16 (drop 0 s)) → b ≡ hex_number (take 16 (drop 16 s)) → c ≡ hex_number (take 16 (drop 32 s)) → d ≡ hex_number (take 16 (drop 48 s)) → r ≡ joined a b c d → r ≡ hex_hash s
+  pub hash_long : (a b c d : Option ℕ) (r : Option Hash) → length s ≡ 64 → a ≡ hex_number (take 16 (drop 0 s)) → b ≡ hex_number (take 16 (drop 16 s)) → c ≡ hex_number (take 16 (drop 32 s)) → d ≡ hex_number (take 16 (drop 48 s)) → r ≡ joined a b c d → r ≡ hex_hash s
   unfolding hex_hash
   hash_long a b c d r h p q u v w = rw (eq-eqb (length s) 64 h, ← p, ← q, ← u, ← v) w
 
@@ -160,7 +155,7 @@ module _ (p q r s : List ℕ) (lp : length p ≡ 16) (lq : length q ≡ 16) (lr 
   part_3 : take 16 (drop 48 (p ++ (q ++ (r ++ s)))) ≡ s
   part_3 = rw (← drop-drop 32 16 (p ++ (q ++ (r ++ s))), ← drop-drop 16 16 (drop 16 (p ++ (q ++ (r ++ s)))), drop_at p (q ++ (r ++ s)) 16 lp, drop_at q (r ++ s) 16 lq, drop_at r s 16 lr, ← ls) (take-length s)
 
-pub read-hex_text : (h : Hash) → HashFits h → hex_hash (hex_text h) ≡ HashWord.Value h
+pub read-hex_text : (h : Hash) → HashFits h → hex_hash (hex_text h) ≡ Some h
 unfolding hex_text joined
 read-hex_text h f =
     let a = hex h.w0 in
@@ -171,7 +166,7 @@ read-hex_text h f =
     let lb = length-hex h.w1 in
     let lc = length-hex h.w2 in
     let ld = length-hex h.w3 in
-    sym (hash_long (hex_text h) (Number.Value h.w0) (Number.Value h.w1) (Number.Value h.w2) (Number.Value h.w3) (HashWord.Value h) (length-hex_text h)
+    sym (hash_long (hex_text h) (Some h.w0) (Some h.w1) (Some h.w2) (Some h.w3) (Some h) (length-hex_text h)
     (sym (rw (take_at a (b ++ (c ++ d)) 16 la) (read-hex h.w0 f.w0)))
     (sym (rw (part_1 a b c d la lb lc ld) (read-hex h.w1 f.w1)))
     (sym (rw (part_2 a b c d la lb lc ld) (read-hex h.w2 f.w2)))

@@ -1,13 +1,13 @@
 -- Reading a hash from the front of a line or of a sheet: it is one word.
+use Rattle.std.specs.Prelude.{Option, Some, None}
 use Rattle.hash.specs.declared.Hash.{Hash}
 use Rattle.text.specs.Rests.{Rest, stopped, Took, word_here, past_word}
 use Rattle.hash_text.specs.LineHashes.{line_hash}
 use Rattle.hash_text.specs.SheetHashes.{sheet_hash}
-use Rattle.hash_text.specs.declared.HashWord.{HashWord}
 
-unfoldable pub hash_got : HashWord → Rest → Took Hash
-hash_got (HashWord.Value h) next = record { value = h; next = next }
-hash_got HashWord.Bad next = record { value = record { w0 = 0; w1 = 0; w2 = 0; w3 = 0 }; next = stopped }
+unfoldable pub hash_got : Option Hash → Rest → Took Hash
+hash_got (Some h) next = record { value = h; next = next }
+hash_got None next = record { value = record { w0 = 0; w1 = 0; w2 = 0; w3 = 0 }; next = stopped }
 
 -- a hash on a line
 unfoldable pub read_hash : Rest → Took Hash

@@ -1,20 +1,13 @@
 -- Document 01, "Prepared list and outcome". The Rust: `PreparedBal::prepare`, of read_hub.rs, and the outcome of
 -- `DeltaSnapshotCache::apply_prepared`, of delta_snapshot.rs.
-use Rattle.std.specs.Prelude.{ℕ, Bool, true, false, not}
-use Rattle.hash.specs.Logic.{both, if}
+use Rattle.std.specs.Prelude.{is_some, ℕ, Bool, true, false, not, Option, cond, ◌&&◌}
 use Rattle.hash.specs.declared.Hash.{Hash}
 use Rattle.head_anchor.specs.Links.{classify_link}
 use Rattle.head_anchor.specs.declared.BalSkip.{BalSkip}
 use Rattle.head_anchor.specs.declared.CarryOutcome.{CarryOutcome}
 use Rattle.head_anchor.specs.declared.Link.{Link}
 use Rattle.head_anchor.specs.declared.PreparedBal.{PreparedBal}
-use Rattle.head_anchor.specs.declared.AnchorSlot.{AnchorSlot}
-use Rattle.head_anchor.specs.declared.BlockHash.{BlockHash}
 use Rattle.head_anchor.specs.declared.ReadAnchor.{ReadAnchor}
-
-unfoldable pub has_hash : BlockHash → Bool
-has_hash BlockHash.Unknown = false
-has_hash (BlockHash.Known h) = true
 
 unfoldable pub is_no_hash : BalSkip → Bool
 is_no_hash BalSkip.Nothing = false
@@ -24,7 +17,7 @@ is_no_hash (BalSkip.Decode n) = false
 
 -- as `PreparedBal::prepare` makes it: the skip is `no-hash` exactly when the anchor has no hash
 unfoldable pub as_prepared : PreparedBal → Bool
-as_prepared list = if (is_no_hash list.skip) (not (has_hash list.anchor.hash)) (has_hash list.anchor.hash)
+as_prepared list = cond (is_no_hash list.skip) (not (is_some list.anchor.hash)) (is_some list.anchor.hash)
 
 unfoldable pub is_linked : Link → Bool
 is_linked Link.Linked = true
@@ -42,8 +35,8 @@ is_read (BalSkip.Decode n) = false
 
 -- `(carried C)` when linked and no skip, else `(cold LINK SKIP)`
 unfoldable pub outcome : Link → BalSkip → ℕ → CarryOutcome
-outcome link skip carried = if (both (is_linked link) (is_read skip)) (CarryOutcome.Carried carried) (CarryOutcome.Cold link skip)
+outcome link skip carried = cond (is_linked link && is_read skip) (CarryOutcome.Carried carried) (CarryOutcome.Cold link skip)
 
 -- the link test takes the installed anchor (or no parent), the head's anchor and its parent hash
-unfoldable pub apply_prepared : AnchorSlot → ReadAnchor → Hash → BalSkip → ℕ → CarryOutcome
+unfoldable pub apply_prepared : Option ReadAnchor → ReadAnchor → Hash → BalSkip → ℕ → CarryOutcome
 apply_prepared installed anchor parent_hash skip carried = outcome (classify_link installed anchor parent_hash) skip carried

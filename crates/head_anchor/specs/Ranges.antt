@@ -1,22 +1,22 @@
 -- Every number of a value is one of 64 bits. The types of a theorem do not say so: there a number has no limit.
+use Rattle.std.specs.Prelude.{Option, None, Some}
+use Rattle.hash.specs.declared.Hash.{Hash}
 use Rattle.hash.specs.Ranges.{Fits, HashFits}
 use Rattle.head_anchor.specs.declared.BalSkip.{BalSkip}
 use Rattle.head_anchor.specs.declared.CarryOutcome.{CarryOutcome}
-use Rattle.head_anchor.specs.declared.AnchorSlot.{AnchorSlot}
-use Rattle.head_anchor.specs.declared.BlockHash.{BlockHash}
 use Rattle.head_anchor.specs.declared.ReadAnchor.{ReadAnchor}
 
-abbrev pub BlockHashFits : BlockHash → Type 0
-BlockHashFits BlockHash.Unknown = Unit {0}
-BlockHashFits (BlockHash.Known h) = HashFits h
+abbrev pub BlockHashFits : Option Hash → Type 0
+BlockHashFits None = Unit {0}
+BlockHashFits (Some h) = HashFits h
 
 pub record AnchorFits (a : ReadAnchor) : Type 0 where
   pub number : Fits a.number
   pub hash : BlockHashFits a.hash
 
-abbrev pub SlotFits : AnchorSlot → Type 0
-SlotFits AnchorSlot.Nothing = Unit {0}
-SlotFits (AnchorSlot.At a) = AnchorFits a
+abbrev pub SlotFits : Option ReadAnchor → Type 0
+SlotFits None = Unit {0}
+SlotFits (Some a) = AnchorFits a
 
 abbrev pub SkipFits : BalSkip → Type 0
 SkipFits BalSkip.Nothing = Unit {0}

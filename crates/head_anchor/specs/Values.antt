@@ -1,12 +1,10 @@
 -- A value as document 01 writes it: a word, a decimal, a hash, or two or three of them in brackets; and how it writes anchors, links, skips and outcomes.
-use Rattle.std.specs.Prelude.{ℕ}
+use Rattle.std.specs.Prelude.{ℕ, Option, None, Some}
 use Rattle.hash.specs.declared.Hash.{Hash}
 use Rattle.head_anchor.specs.Words.{Word}
 use Rattle.head_anchor.specs.declared.BalSkip.{BalSkip}
 use Rattle.head_anchor.specs.declared.CarryOutcome.{CarryOutcome}
 use Rattle.head_anchor.specs.declared.Link.{Link}
-use Rattle.head_anchor.specs.declared.AnchorSlot.{AnchorSlot}
-use Rattle.head_anchor.specs.declared.BlockHash.{BlockHash}
 use Rattle.head_anchor.specs.declared.ReadAnchor.{ReadAnchor}
 
 pub data Value : Type 0 where
@@ -16,18 +14,18 @@ pub data Value : Type 0 where
   two : Value → Value → Value
   three : Value → Value → Value → Value
 
-unfoldable pub block_hash_value : BlockHash → Value
-block_hash_value BlockHash.Unknown = word Word.none
-block_hash_value (BlockHash.Known h) = hash h
+unfoldable pub block_hash_value : Option Hash → Value
+block_hash_value None = word Word.none
+block_hash_value (Some h) = hash h
 
 -- an anchor A is `(NUMBER HASH)` or `(NUMBER none)`
 unfoldable pub anchor_value : ReadAnchor → Value
 anchor_value a = two (number a.number) (block_hash_value a.hash)
 
 -- an anchor or `none`
-unfoldable pub slot_value : AnchorSlot → Value
-slot_value AnchorSlot.Nothing = word Word.none
-slot_value (AnchorSlot.At a) = anchor_value a
+unfoldable pub slot_value : Option ReadAnchor → Value
+slot_value None = word Word.none
+slot_value (Some a) = anchor_value a
 
 -- the answer WORD of the link test
 unfoldable pub link_value : Link → Value

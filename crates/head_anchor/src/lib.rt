@@ -8,7 +8,7 @@ pub mod storage_memo;
 
 // From bal_prefetch.rs.
 
-// The Rust's `Option<BalSkip>`; a number stands for the text of an error.
+// The Rust's `Option<BalSkip>`; a number stands for the text of an error. One enum, since document 01 lists none among the skips.
 #[derive(Clone, Copy)]
 pub enum BalSkip {
     Nothing,
@@ -19,7 +19,7 @@ pub enum BalSkip {
 
 // From read_hub.rs.
 
-// The Rust's `Option<CarryRefusal>`: linked, or what is wrong with the link.
+// The Rust's `Option<CarryRefusal>`: linked, or what is wrong with the link. One enum, since document 01 lists the five words in a row.
 #[derive(Clone, Copy)]
 pub enum Link {
     Linked,
@@ -36,7 +36,7 @@ pub struct PreparedBal {
     pub skip: BalSkip,
 }
 
-// The number that `Carried` holds is the host's.
+// The number that `Carried` holds is the host's. The Rust's enum, and document 01's `carried` and `cold`: a cold outcome is no error.
 #[derive(Clone, Copy)]
 pub enum CarryOutcome {
     Carried(u64),
@@ -45,22 +45,8 @@ pub enum CarryOutcome {
 
 // From storage_memo.rs.
 
-// The Rust's `Option<B256>` in an anchor.
-#[derive(Clone, Copy)]
-pub enum BlockHash {
-    Unknown,
-    Known(Hash),
-}
-
-#[derive(Clone, Copy)]
+#[derive(Clone, Copy, PartialEq, Eq)]
 pub struct ReadAnchor {
     pub number: u64,
-    pub hash: BlockHash,
-}
-
-// The Rust's `Option<ReadAnchor>`.
-#[derive(Clone, Copy)]
-pub enum AnchorSlot {
-    Nothing,
-    At(ReadAnchor),
+    pub hash: Option<Hash>,
 }

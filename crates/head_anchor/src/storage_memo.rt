@@ -1,43 +1,20 @@
-// From storage_memo.rs: when two anchors are equal.
+// From storage_memo.rs: the derived `==` of anchors is document 01's.
 ghost use Rattle.std.specs.Prelude.{◌≡◌};
-ghost use Rattle.head_anchor.specs.Anchors.{same_block_hash, same_anchor, holds};
+ghost use Rattle.head_anchor.specs.Anchors.{same_anchor, holds};
 
-use crate::{AnchorSlot, BlockHash, ReadAnchor};
-use hash::{both, same_hash};
+use crate::ReadAnchor;
 
-#[tactic(auto, unfolding(crate::specs::Anchors::same_block_hash))]
-pub(crate) fn same_block_hash(a: BlockHash, b: BlockHash) -> bool
-    ensures { result ≡ same_block_hash a b }
-{
-    match a {
-        BlockHash::Unknown => match b {
-            BlockHash::Unknown => true,
-            BlockHash::Known(_) => false,
-        },
-        BlockHash::Known(x) => match b {
-            BlockHash::Unknown => false,
-            BlockHash::Known(y) => same_hash(x, y),
-        },
-    }
-}
-
-// The Rust's `==` on anchors.
-#[tactic(auto, unfolding(crate::specs::Anchors::same_anchor))]
+#[tactic(auto, unfolding(crate::specs::Anchors::same_anchor, hash::specs::Hashes::same_hash))]
 pub fn same_anchor(a: ReadAnchor, b: ReadAnchor) -> bool
     ensures { result ≡ same_anchor a b }
 {
-    let x = a.hash;
-    let y = b.hash;
-    both(a.number == b.number, same_block_hash(x, y))
+    a == b
 }
 
-// The Rust's `slot == Some(a)`.
-#[tactic(auto, unfolding(crate::specs::Anchors::holds))]
-pub fn holds(slot: AnchorSlot, a: ReadAnchor) -> bool
+// There is an anchor, and it is this one.
+#[tactic(auto, unfolding(crate::specs::Anchors::holds, crate::specs::Anchors::same_anchor, hash::specs::Hashes::same_hash))]
+pub fn holds(slot: Option<ReadAnchor>, a: ReadAnchor) -> bool
     ensures { result ≡ holds slot a }
 {
-    match slot {
-        AnchorSlot::Nothing => false,
-        AnchorSlot::At(b) => same_anchor(b, a),
-    }
+    slot == Some(a)
 }

@@ -1,6 +1,5 @@
 -- Document 01, "Lifecycle" and "Turned away": the call apply on a driver. Apply tests 2, 11, 12, 13. The Rust: `BalHeadDriver::apply_members`, of head_lifecycle.rs.
-use Rattle.std.specs.Prelude.{ℕ}
-use Rattle.hash.specs.Logic.{if}
+use Rattle.std.specs.Prelude.{ℕ, cond}
 use Rattle.head_anchor.specs.Lists.{as_prepared, apply_prepared}
 use Rattle.head_driver.specs.Parts.{reply_of, ending_with, with_life}
 use Rattle.head_life.specs.State.{counted}
@@ -34,6 +33,6 @@ apply_as d skip handle carried report (ApplyPlan.Admitted held) =
 -- `apply`: 2 if list and anchor disagree on `no-hash`; then 11 or 12, which add 1 to discarded, or 13; else the head settles with the outcome.
 unfoldable pub apply : Driver → HeadTicket → PreparedBal → ℕ → ℕ → ℕ → Reply
 apply d ticket list handle carried report =
-    if (as_prepared list)
+    cond (as_prepared list)
     (apply_as d list.skip handle carried report (plan_apply d.life ticket list.anchor))
     (reply_of d Answer.ListAtOdds)

@@ -1,6 +1,6 @@
 -- Document 01, "The sixteen waiters": each parked waiter waits on the current preparation, and the call that ends this preparation ends them all.
 -- The Rust: the receivers that `wait_for_head` takes of an attempt's `watch` channel, of head_lifecycle.rs.
-use Rattle.std.specs.Prelude.{List, [], ◌∷◌}
+use Rattle.std.specs.Prelude.{List, map}
 use Rattle.head_anchor.specs.declared.ReadAnchor.{ReadAnchor}
 use Rattle.head_attempt.specs.declared.HeadCompletion.{HeadCompletion}
 use Rattle.head_attempt.specs.declared.Waiter.{Waiter}
@@ -20,5 +20,4 @@ abbrev pub slot_of : Waiter → WaiterSlot
 slot_of w = record { waiter = w }
 
 unfoldable pub wake : HeadCompletion → ReadAnchor → List WaiterSlot → List WaiterSlot
-wake end a [] = []
-wake end a (s ∷ ss) = slot_of (woken end a s.waiter) ∷ wake end a ss
+wake end a waiters = map (λ s. slot_of (woken end a s.waiter)) waiters

@@ -12,14 +12,12 @@ pub(crate) fn first_end(end: HeadCompletion, later: HeadCompletion) -> HeadCompl
 {
     match end {
         HeadCompletion::Open => later,
-        HeadCompletion::Settled => HeadCompletion::Settled,
-        HeadCompletion::Superseded => HeadCompletion::Superseded,
-        HeadCompletion::Abandoned => HeadCompletion::Abandoned,
+        HeadCompletion::Settled | HeadCompletion::Superseded | HeadCompletion::Abandoned => end,
     }
 }
 
 impl ClaimAttempt {
-    // An attempt that nothing has ended yet. A delivery's own has epoch 0.
+    // An attempt that nothing has ended yet. A delivery's own has epoch 0. `minted` and `settled` are the Rust's: by their names a reader finds them.
     #[tactic(auto, unfolding(crate::specs::Attempts::minted))]
     pub fn minted(epoch: Epoch) -> ClaimAttempt
         ensures { result ≡ minted epoch }
@@ -44,9 +42,8 @@ impl ClaimAttempt {
     pub fn publish(self, end: HeadCompletion) -> ClaimAttempt
         ensures { result ≡ publish self end }
     {
-        let old = self.end;
         ClaimAttempt {
-            end: first_end(old, end),
+            end: first_end(self.end, end),
             ..self
         }
     }

@@ -9,7 +9,7 @@ pub mod head_lifecycle;
 
 // From head_lifecycle.rs.
 
-// The Rust's `Option<HeadCompletion>`: an attempt that has not ended is open.
+// The Rust's `Option<HeadCompletion>`: an attempt that has not ended is open. One enum, since an end is handed in too: one without `Open` would ask more of a caller.
 #[derive(Clone, Copy)]
 pub enum HeadCompletion {
     Open,
@@ -25,15 +25,16 @@ pub struct ClaimAttempt {
 }
 
 // A parked waiter needs no anchor: it waits on the current preparation.
-#[derive(Clone, Copy)]
+#[derive(Clone, Copy, Default)]
 pub enum Waiter {
+    #[default]
     Free,
     Parked,
     Abandoned(ReadAnchor),
     Ended(ReadAnchor),
 }
 
-#[derive(Clone, Copy)]
+#[derive(Clone, Copy, Default)]
 pub struct WaiterSlot {
     pub waiter: Waiter,
 }

@@ -3,7 +3,7 @@
 #![tactic(auto)]
 
 use hash::Hash;
-use head_anchor::{AnchorSlot, PreparedBal, ReadAnchor};
+use head_anchor::{PreparedBal, ReadAnchor};
 use head_current::{HeadTicket, PrepareClaim};
 
 pub mod head_lifecycle;
@@ -19,7 +19,7 @@ pub enum Call {
     Wait(u64, ReadAnchor, u64),
     Resume(u64, u64),
     Completion(ReadAnchor),
-    Link(AnchorSlot, ReadAnchor, Hash),
+    Link(Option<ReadAnchor>, ReadAnchor, Hash),
     Report,
     Stats,
     Heads,
@@ -28,7 +28,6 @@ pub enum Call {
 // Why a call is turned away by its input alone.
 #[derive(Clone, Copy)]
 pub enum InputRefusal {
-    Nothing,
     ListAtOdds,
     WaiterOutOfRange,
 }

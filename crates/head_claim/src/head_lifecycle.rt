@@ -1,84 +1,66 @@
-// From head_lifecycle.rs: `ClaimStart`, `HeadLifecycle::claim`, `CurrentHead::claimed`, and the claim of `advance_with_relevance`.
-ghost use Rattle.std.specs.Prelude.{◌≡◌};
+// From head_lifecycle.rs: `HeadLifecycle::claim`, `CurrentHead::claimed`, and the claim of `advance_with_relevance`.
+ghost use Rattle.std.specs.Prelude.{◌≡◌, Ok};
 ghost use Rattle.head_claim.specs.Claim.{claim, claim_as};
 ghost use Rattle.head_claim.specs.Claimed.{claimed, claimed_head};
-ghost use Rattle.head_claim.specs.Parts.{claim_next, start_of};
 ghost use Rattle.head_claim.specs.Starts.{claim_gate, claim_start};
-ghost use Rattle.head_current.specs.Heads.{delivery};
 ghost use Rattle.head_driver.specs.Answers.{Replies};
 
-use head_anchor::AnchorSlot;
-use head_anchor::storage_memo::holds;
+use head_anchor::ReadAnchor;
 use head_attempt::ClaimAttempt;
 use head_count::Epoch;
-use head_current::{CurrentHead, DeliverySlot, HeadDelivery, HeadTicket, UnsettledHead};
+use head_current::{CurrentHead, HeadDelivery, HeadTicket, UnsettledHead};
 use head_driver::head_lifecycle::answered;
 use head_driver::{Answer, Driver, Reply};
 use head_life::HeadLifecycle;
 use head_ready::HeadOutcome;
-
-#[derive(Clone, Copy)]
-pub enum ClaimStart {
-    Claimed(Epoch),
-    Refused(HeadOutcome),
-}
+use head_ready::delta_snapshot::slot_anchor;
 
 // What a claim of a head with that delivery starts: `next` where the ticket is the head's and the head is not installed.
-#[tactic(auto, unfolding(crate::specs::Starts::claim_gate))]
+#[tactic(auto, unfolding(crate::specs::Starts::claim_gate, head_anchor::specs::Anchors::holds, head_anchor::specs::Anchors::same_anchor, hash::specs::Hashes::same_hash))]
 pub(crate) fn claim_gate(
-    installed: AnchorSlot,
+    installed: Option<ReadAnchor>,
     held: HeadDelivery,
     ticket: HeadTicket,
-    next: ClaimStart,
-) -> ClaimStart
+    next: Result<Epoch, HeadOutcome>,
+) -> Result<Epoch, HeadOutcome>
     ensures { result ≡ claim_gate installed held ticket next }
 {
-    if held.has_ticket(ticket) {
-        if holds(installed, ticket.anchor) {
-            return ClaimStart::Refused(HeadOutcome::AlreadySettled);
-        }
-        return next;
+    if !held.has_ticket(ticket) {
+        return Err(HeadOutcome::Superseded(held.anchor));
     }
-    let anchor = held.anchor;
-    ClaimStart::Refused(HeadOutcome::Superseded(anchor))
-}
-
-// What the head's state allows. Of no head nobody asks.
-#[tactic(auto, unfolding(crate::specs::Parts::claim_next))]
-pub(crate) fn claim_next(current: CurrentHead, epoch: Epoch) -> ClaimStart
-    ensures { result ≡ claim_next current epoch }
-{
-    match current {
-        CurrentHead::Unclaimed(_) => return ClaimStart::Claimed(epoch.next()),
-        CurrentHead::Preparing(_) => return ClaimStart::Refused(HeadOutcome::InFlight),
-        _ => return ClaimStart::Refused(HeadOutcome::AlreadySettled),
+    if installed == Some(ticket.anchor) {
+        return Err(HeadOutcome::AlreadySettled);
     }
+    next
 }
 
-#[tactic(auto, unfolding(crate::specs::Parts::start_of))]
-pub(crate) fn claim_start_at(
-    installed: AnchorSlot,
-    epoch: Epoch,
-    current: CurrentHead,
-    ticket: HeadTicket,
-) -> ClaimStart
-    ensures { result ≡ start_of installed epoch current ticket (delivery current) }
-{
-    let DeliverySlot::Held(held) = current.delivery() else {
-        let anchor = ticket.anchor;
-        return ClaimStart::Refused(HeadOutcome::Superseded(anchor));
-    };
-    claim_gate(installed, held, ticket, claim_next(current, epoch))
-}
-
-// What a claim would start; `claimed` then takes it.
-#[tactic(auto, unfolding(crate::specs::Parts::start_of, head_current::specs::Heads::delivery, crate::specs::Parts::claim_next, crate::specs::Starts::claim_start))]
-pub(crate) fn claim_start(life: HeadLifecycle, ticket: HeadTicket) -> ClaimStart
+// The epoch that a claim would start, or why it would not; `claimed` then takes it. The Rust's `ClaimStart`.
+#[tactic(auto, unfolding(crate::specs::Starts::claim_start))]
+pub(crate) fn claim_start(life: HeadLifecycle, ticket: HeadTicket) -> Result<Epoch, HeadOutcome>
     ensures { result ≡ claim_start life ticket }
 {
-    let current = life.current;
-    let installed = life.installed;
-    claim_start_at(installed.anchor(), life.claim_epoch, current, ticket)
+    let installed = slot_anchor(life.installed);
+    match life.current {
+        CurrentHead::Absent => Err(HeadOutcome::Superseded(ticket.anchor)),
+        CurrentHead::Unclaimed(u) => claim_gate(
+            installed,
+            u.delivery,
+            ticket,
+            Ok(life.claim_epoch.next()),
+        ),
+        CurrentHead::Preparing(u) => claim_gate(
+            installed,
+            u.delivery,
+            ticket,
+            Err(HeadOutcome::InFlight),
+        ),
+        CurrentHead::Settled(s) => claim_gate(
+            installed,
+            s.delivery,
+            ticket,
+            Err(HeadOutcome::AlreadySettled),
+        ),
+    }
 }
 
 #[tactic(auto, unfolding(crate::specs::Claimed::claimed_head))]
@@ -88,21 +70,22 @@ pub(crate) fn claimed_head(current: CurrentHead, epoch: Epoch) -> CurrentHead
     let CurrentHead::Unclaimed(u) = current else {
         return current;
     };
-    let attempt = ClaimAttempt::minted(epoch);
-    CurrentHead::Preparing(UnsettledHead { attempt, ..u })
+    CurrentHead::Preparing(UnsettledHead {
+        attempt: ClaimAttempt::minted(epoch),
+        ..u
+    })
 }
 
 #[tactic(auto, unfolding(crate::specs::Claimed::claimed))]
 pub(crate) fn claimed(life: HeadLifecycle, epoch: Epoch) -> HeadLifecycle
     ensures { result ≡ claimed life epoch }
 {
-    let old = life.current;
-    life.with_head(claimed_head(old, epoch), epoch)
+    life.with_head(claimed_head(life.current, epoch), epoch)
 }
 
 #[tactic(auto, unfolding(crate::specs::Claim::claim_as, head_driver::specs::Parts::with_life))]
 pub(crate) fn claim_taken(mut d: Driver, epoch: Epoch) -> Reply
-    ensures { result ≡ claim_as d (ClaimStart.Claimed epoch) }
+    ensures { result ≡ claim_as d (Ok epoch) }
 {
     d.life = claimed(d.life, epoch);
     answered(d, Answer::Claimed(epoch))
@@ -113,7 +96,7 @@ pub fn claim(d: Driver, ticket: HeadTicket) -> Reply
     ensures { Replies result (claim d ticket) }
 {
     match claim_start(d.life, ticket) {
-        ClaimStart::Claimed(epoch) => return claim_taken(d, epoch),
-        ClaimStart::Refused(outcome) => return answered(d, Answer::Outcome(outcome)),
+        Ok(epoch) => claim_taken(d, epoch),
+        Err(outcome) => answered(d, Answer::Outcome(outcome)),
     }
 }

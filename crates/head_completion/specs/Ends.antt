@@ -1,5 +1,5 @@
 -- Document 01, "Lines": the end that `completion` answers. The Rust: `HeadLifecycle::completion` and `ClaimAttempt::published`, of head_lifecycle.rs.
-use Rattle.hash.specs.Logic.{if}
+use Rattle.std.specs.Prelude.{cond}
 use Rattle.head_anchor.specs.Anchors.{holds}
 use Rattle.head_current.specs.Heads.{anchor_of, delivery}
 use Rattle.head_anchor.specs.declared.ReadAnchor.{ReadAnchor}
@@ -16,4 +16,4 @@ published (CurrentHead.Settled s) = s.attempt.end
 
 -- END: none, or the current attempt's end if the anchor is current: `HeadLifecycle::completion`
 unfoldable pub end_at : HeadLifecycle → ReadAnchor → HeadCompletion
-end_at l a = if (holds (anchor_of (delivery l.current)) a) (published l.current) HeadCompletion.Open
+end_at l a = cond (holds (anchor_of (delivery l.current)) a) (published l.current) HeadCompletion.Open

@@ -5,19 +5,11 @@ ghost use Rattle.head_completion.specs.Ends.{end_at, published};
 ghost use Rattle.head_driver.specs.Answers.{Replies};
 
 use head_anchor::ReadAnchor;
-use head_anchor::storage_memo::holds;
-use head_attempt::{ClaimAttempt, HeadCompletion};
+use head_attempt::HeadCompletion;
 use head_current::CurrentHead;
 use head_driver::head_lifecycle::answered;
 use head_driver::{Answer, Driver, Reply};
 use head_life::HeadLifecycle;
-
-// The end that an attempt has published.
-pub(crate) fn end_of(attempt: ClaimAttempt) -> HeadCompletion
-    ensures { result ≡ attempt.end }
-{
-    attempt.end
-}
 
 // The end that the current attempt has published.
 #[tactic(auto, unfolding(crate::specs::Ends::published))]
@@ -25,20 +17,18 @@ pub(crate) fn published(current: CurrentHead) -> HeadCompletion
     ensures { result ≡ published current }
 {
     match current {
-        CurrentHead::Absent => return HeadCompletion::Open,
-        CurrentHead::Unclaimed(u) => return end_of(u.attempt),
-        CurrentHead::Preparing(u) => return end_of(u.attempt),
-        CurrentHead::Settled(s) => return end_of(s.attempt),
+        CurrentHead::Absent => HeadCompletion::Open,
+        CurrentHead::Unclaimed(u) | CurrentHead::Preparing(u) => u.attempt.end,
+        CurrentHead::Settled(s) => s.attempt.end,
     }
 }
 
-#[tactic(auto, unfolding(crate::specs::Ends::end_at))]
+#[tactic(auto, unfolding(crate::specs::Ends::end_at, head_anchor::specs::Anchors::holds, head_anchor::specs::Anchors::same_anchor, hash::specs::Hashes::same_hash))]
 pub(crate) fn end_at(life: HeadLifecycle, anchor: ReadAnchor) -> HeadCompletion
     ensures { result ≡ end_at life anchor }
 {
-    let current = life.current;
-    if holds(current.anchor(), anchor) {
-        published(current)
+    if life.current.anchor() == Some(anchor) {
+        published(life.current)
     } else {
         HeadCompletion::Open
     }

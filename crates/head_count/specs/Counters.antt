@@ -1,6 +1,5 @@
 -- Document 01, "Lifecycle": all counters saturate. The Rust: `saturating_add(1)` on `seq`, `claim_epoch` and the fields of `HeadStats`, of head_lifecycle.rs.
-use Rattle.std.specs.Prelude.{◌+◌, ℕ, Bool, eqb, ltb}
-use Rattle.hash.specs.Logic.{if}
+use Rattle.std.specs.Prelude.{◌+◌, ℕ, Bool, eqb, ltb, cond}
 use Rattle.head_count.specs.declared.Counter.{Counter}
 use Rattle.head_count.specs.declared.Epoch.{Epoch}
 use Rattle.head_count.specs.declared.HeadStats.{HeadStats}
@@ -8,7 +7,7 @@ use Rattle.head_count.specs.declared.Seq.{Seq}
 
 -- one more, and never above 2^64 - 1
 unfoldable pub up : ℕ → ℕ
-up n = if (ltb n 0xffff_ffff_ffff_ffff) (n + 1) n
+up n = cond (ltb n 0xffff_ffff_ffff_ffff) (n + 1) n
 
 abbrev pub seq_of : ℕ → Seq
 seq_of n = record { 0 = n }
@@ -57,4 +56,4 @@ raise Counter.ColdViews s = stats_of s.delivered s.repeated s.superseded s.settl
 
 -- one of ready-views and cold-views rises: `HeadLifecycle::record_view`
 unfoldable pub record_view : Bool → HeadStats → HeadStats
-record_view ready s = if ready (raise Counter.ReadyViews s) (raise Counter.ColdViews s)
+record_view ready s = cond ready (raise Counter.ReadyViews s) (raise Counter.ColdViews s)

@@ -4,14 +4,15 @@ ghost use Rattle.head_count.specs.Counters.{next_epoch, next_seq, raise, up};
 
 use crate::{Counter, Epoch, HeadStats, Seq};
 
-// The Rust's `saturating_add(1)`.
+// One more, and never above 2^64 - 1.
 #[tactic(auto, unfolding(crate::specs::Counters::up))]
 pub fn raised(n: u64) -> u64
     ensures { result ≡ up n }
 {
-    if n < 0xffff_ffff_ffff_ffff { n + 1 } else { n }
+    n.saturating_add(1)
 }
 
+// The same for each of document 01's two tuple structs: a trait for a line is no plainer.
 impl Seq {
     #[tactic(auto, unfolding(crate::specs::Counters::next_seq))]
     pub fn next(self) -> Seq

@@ -7,11 +7,11 @@ pub mod head_lifecycle;
 // From head_lifecycle.rs.
 
 // A delivery number: the Rust's `seq`. A type of its own, so that it is never taken where a claim epoch is asked for.
-#[derive(Clone, Copy)]
+#[derive(Clone, Copy, PartialEq, Eq, Default)]
 pub struct Seq(pub u64);
 
 // A claim epoch: the Rust's `epoch`.
-#[derive(Clone, Copy)]
+#[derive(Clone, Copy, PartialEq, Eq, Default)]
 pub struct Epoch(pub u64);
 
 #[derive(Clone, Copy)]
@@ -26,7 +26,7 @@ pub enum Counter {
     ColdViews,
 }
 
-#[derive(Clone, Copy)]
+#[derive(Clone, Copy, Default)]
 pub struct HeadStats {
     pub delivered: u64,
     pub repeated: u64,

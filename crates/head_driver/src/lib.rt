@@ -2,10 +2,10 @@
 // Knows nothing of the calls, nor of lines.
 #![tactic(auto)]
 
-use head_anchor::{AnchorSlot, Link};
+use head_anchor::{Link, ReadAnchor};
 use head_attempt::{HeadCompletion, WaiterSlot};
 use head_count::{Epoch, HeadStats, Seq};
-use head_current::LastReport;
+use head_current::DeltaReport;
 use head_life::HeadLifecycle;
 use head_ready::{HeadOutcome, HeadView};
 
@@ -13,7 +13,7 @@ pub mod head_lifecycle;
 
 // From head_lifecycle.rs: `BalHeadDriver`, and what its calls answer. A call takes the driver by value and gives it back with its answer.
 
-#[derive(Clone, Copy)]
+#[derive(Clone, Copy, Default)]
 pub struct Driver {
     pub life: HeadLifecycle,
     pub waiters: [WaiterSlot; 16],
@@ -29,15 +29,16 @@ pub enum Answer {
     Parked,
     Completion(HeadCompletion),
     Link(Link),
-    Report(LastReport),
+    Report(Option<DeltaReport>),
     Stats(HeadStats),
-    Heads(AnchorSlot, AnchorSlot, AnchorSlot),
+    Heads(Option<ReadAnchor>, Option<ReadAnchor>, Option<ReadAnchor>),
     ListAtOdds,
     WaiterOutOfRange,
     WaiterTaken,
     WaiterFree,
 }
 
+// A call's reply. A line's (`Turn`) and a printed line's (`Printed`) are types of their own: what each holds beside the driver is told by its name.
 #[derive(Clone, Copy)]
 pub struct Reply {
     pub driver: Driver,

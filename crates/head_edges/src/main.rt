@@ -3,30 +3,18 @@
 
 ghost use Rattle.std.specs.Prelude.{◌≡◌};
 ghost use Rattle.head_driver.specs.Answers.{said};
-ghost use Rattle.head_edges.specs.Shown.{length_of};
 ghost use Rattle.head_step.specs.Steps.{step};
 
 use driver::{LineAnswer, put_line};
 use hash::Hash;
-use head_anchor::{AnchorSlot, BalSkip, BlockHash, PreparedBal, ReadAnchor};
+use head_anchor::{BalSkip, PreparedBal, ReadAnchor};
 use head_call::Call;
 use head_count::{Epoch, Seq};
 use head_current::{HeadTicket, PrepareClaim};
 use head_driver::{Answer, Driver};
 use head_new::head_lifecycle::new;
 use head_step::head_lifecycle::step;
-use script_value::buffer::Written;
 use std::io::{self, Write};
-
-#[tactic(auto, unfolding(crate::specs::Shown::length_of))]
-fn length_of(written: Written) -> usize
-    ensures { result ≡ length_of written }
-{
-    match written {
-        Written::TooShort => 0,
-        Written::Bytes(n) => n,
-    }
-}
 
 // Writes the first bytes of a line and gives their number, since no contract can speak of what is written.
 fn write_front(rt: &impl Print, line: &[u8], n: usize) -> usize
@@ -43,7 +31,7 @@ fn show(rt: &impl Print, answer: Answer) -> u64
     ensures { result ≡ (said answer).number }
 {
     let mut line = [0u8; 512];
-    let n = length_of(put_line(&mut line, LineAnswer::Said(answer)));
+    let n = put_line(&mut line, LineAnswer::Said(answer)).unwrap_or(0);
     write_front(rt, &line, n);
     answer.number()
 }
@@ -71,40 +59,19 @@ fn hash_of(n: u64) -> Hash
 
 // An anchor without hash.
 fn bare(number: u64) -> ReadAnchor
-    ensures { result ≡ record { number = number; hash = BlockHash.Unknown } }
+    ensures { result ≡ record { number = number; hash = None } }
 {
-    ReadAnchor {
-        number,
-        hash: BlockHash::Unknown,
-    }
+    ReadAnchor { number, hash: None }
 }
 
 // An anchor with the hash of its number.
 fn known(number: u64) -> ReadAnchor
-    ensures { result ≡ record { number = number; hash = BlockHash.Known (record { w0 = 0; w1 = 0; w2 = 0; w3 = number }) } }
+    ensures { result ≡ record { number = number; hash = Some (record { w0 = 0; w1 = 0; w2 = 0; w3 = number }) } }
 {
     ReadAnchor {
         number,
-        hash: BlockHash::Known(hash_of(number)),
+        hash: Some(hash_of(number)),
     }
-}
-
-fn ticket(anchor: ReadAnchor, seq: Seq) -> HeadTicket
-    ensures { result ≡ record { anchor = anchor; seq = seq } }
-{
-    HeadTicket { anchor, seq }
-}
-
-fn owner(seq: Seq, epoch: Epoch) -> PrepareClaim
-    ensures { result ≡ record { seq = seq; epoch = epoch } }
-{
-    PrepareClaim { seq, epoch }
-}
-
-fn list(anchor: ReadAnchor, skip: BalSkip) -> PreparedBal
-    ensures { result ≡ record { anchor = anchor; skip = skip } }
-{
-    PreparedBal { anchor, skip }
 }
 
 // E1 to E4: the link test.
@@ -113,38 +80,39 @@ fn links(rt: &impl Print, d: Driver) -> Driver
 {
     let last = ReadAnchor {
         number: 0xffff_ffff_ffff_ffff,
-        hash: BlockHash::Known(hash_of(0)),
+        hash: Some(hash_of(0)),
     };
-    play(rt, d, Call::Link(AnchorSlot::At(last), bare(0), hash_of(0)));
-    play(
-        rt,
-        d,
-        Call::Link(AnchorSlot::At(bare(9)), bare(10), hash_of(0)),
-    );
-    play(
-        rt,
-        d,
-        Call::Link(AnchorSlot::At(known(9)), bare(10), hash_of(8)),
-    );
-    play(
-        rt,
-        d,
-        Call::Link(AnchorSlot::At(known(9)), bare(10), hash_of(9)),
-    );
+    play(rt, d, Call::Link(Some(last), bare(0), hash_of(0)));
+    play(rt, d, Call::Link(Some(bare(9)), bare(10), hash_of(0)));
+    play(rt, d, Call::Link(Some(known(9)), bare(10), hash_of(8)));
+    play(rt, d, Call::Link(Some(known(9)), bare(10), hash_of(9)));
     d
 }
 
 fn main(rt: HostRuntime) {
     let mut d = links(&rt, new());
     // E5, E6: a new driver, claim and apply.
-    d = play(&rt, d, Call::Claim(ticket(bare(7), Seq(1))));
+    d = play(
+        &rt,
+        d,
+        Call::Claim(HeadTicket {
+            anchor: bare(7),
+            seq: Seq(1),
+        }),
+    );
     d = play(&rt, d, Call::Stats);
     d = play(
         &rt,
         d,
         Call::Apply(
-            ticket(bare(7), Seq(1)),
-            list(bare(7), BalSkip::NoHash),
+            HeadTicket {
+                anchor: bare(7),
+                seq: Seq(1),
+            },
+            PreparedBal {
+                anchor: bare(7),
+                skip: BalSkip::NoHash,
+            },
             60,
             0,
             90,
@@ -160,9 +128,30 @@ fn main(rt: HostRuntime) {
     d = play(&rt, d, Call::Deliver(bare(7), hash_of(0), 51));
     d = play(&rt, d, Call::Stats);
     // E9: release with epoch 2 against 1; the head is preparing still.
-    d = play(&rt, d, Call::Claim(ticket(bare(7), Seq(1))));
-    d = play(&rt, d, Call::Release(owner(Seq(1), Epoch(2))));
-    d = play(&rt, d, Call::Claim(ticket(bare(7), Seq(1))));
+    d = play(
+        &rt,
+        d,
+        Call::Claim(HeadTicket {
+            anchor: bare(7),
+            seq: Seq(1),
+        }),
+    );
+    d = play(
+        &rt,
+        d,
+        Call::Release(PrepareClaim {
+            seq: Seq(1),
+            epoch: Epoch(2),
+        }),
+    );
+    d = play(
+        &rt,
+        d,
+        Call::Claim(HeadTicket {
+            anchor: bare(7),
+            seq: Seq(1),
+        }),
+    );
     // E10: waiter 15 is accepted, 16 refused 3.
     d = play(&rt, new(), Call::Wait(15, bare(7), 51));
     d = play(&rt, d, Call::Wait(16, bare(7), 51));
@@ -172,24 +161,57 @@ fn main(rt: HostRuntime) {
         &rt,
         d,
         Call::Apply(
-            ticket(known(1), Seq(1)),
-            list(known(1), BalSkip::Nothing),
+            HeadTicket {
+                anchor: known(1),
+                seq: Seq(1),
+            },
+            PreparedBal {
+                anchor: known(1),
+                skip: BalSkip::Nothing,
+            },
             60,
             0,
             90,
         ),
     );
     d = play(&rt, d, Call::Deliver(known(2), hash_of(1), 51));
-    d = play(&rt, d, Call::Claim(ticket(known(2), Seq(2))));
+    d = play(
+        &rt,
+        d,
+        Call::Claim(HeadTicket {
+            anchor: known(2),
+            seq: Seq(2),
+        }),
+    );
     d = play(&rt, d, Call::Wait(0, known(2), 52));
-    d = play(&rt, d, Call::Release(owner(Seq(2), Epoch(1))));
-    d = play(&rt, d, Call::Claim(ticket(known(2), Seq(2))));
+    d = play(
+        &rt,
+        d,
+        Call::Release(PrepareClaim {
+            seq: Seq(2),
+            epoch: Epoch(1),
+        }),
+    );
+    d = play(
+        &rt,
+        d,
+        Call::Claim(HeadTicket {
+            anchor: known(2),
+            seq: Seq(2),
+        }),
+    );
     d = play(
         &rt,
         d,
         Call::Apply(
-            ticket(known(2), Seq(2)),
-            list(known(2), BalSkip::Nothing),
+            HeadTicket {
+                anchor: known(2),
+                seq: Seq(2),
+            },
+            PreparedBal {
+                anchor: known(2),
+                skip: BalSkip::Nothing,
+            },
             61,
             5,
             91,

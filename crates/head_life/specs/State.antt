@@ -1,22 +1,21 @@
 -- Document 01, "What contracts say": a new driver's lifecycle; a lifecycle with one counter raised, or with another current head. The Rust: `HeadLifecycle`, of head_lifecycle.rs.
+use Rattle.std.specs.Prelude.{None}
 use Rattle.head_count.specs.Counters.{epoch_of, none_counted, raise, record_view, seq_of}
 use Rattle.head_ready.specs.Generations.{is_ready}
-use Rattle.head_anchor.specs.declared.AnchorSlot.{AnchorSlot}
 use Rattle.head_count.specs.declared.Counter.{Counter}
 use Rattle.head_count.specs.declared.Epoch.{Epoch}
 use Rattle.head_count.specs.declared.HeadStats.{HeadStats}
 use Rattle.head_current.specs.declared.CurrentHead.{CurrentHead}
 use Rattle.head_life.specs.declared.HeadLifecycle.{HeadLifecycle}
-use Rattle.head_ready.specs.declared.GenerationSlot.{GenerationSlot}
 use Rattle.head_ready.specs.declared.HeadReadiness.{HeadReadiness}
 
 -- no current head, no superseded anchor, nothing installed or previous, all counters 0
 unfoldable pub no_head : HeadLifecycle
 no_head = record {
   current = CurrentHead.Absent;
-  superseded = AnchorSlot.Nothing;
-  installed = GenerationSlot.Nothing;
-  previous = GenerationSlot.Nothing;
+  superseded = None;
+  installed = None;
+  previous = None;
   seq = seq_of 0;
   claim_epoch = epoch_of 0;
   stats = none_counted;

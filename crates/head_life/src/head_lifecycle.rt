@@ -8,12 +8,11 @@ use head_current::CurrentHead;
 
 impl HeadLifecycle {
     #[tactic(auto, unfolding(crate::specs::State::counted))]
-    pub fn count(self, counter: Counter) -> HeadLifecycle
+    pub fn count(mut self, counter: Counter) -> HeadLifecycle
         ensures { result ≡ counted self counter }
     {
-        let mut next = self;
-        next.stats = self.stats.raise(counter);
-        next
+        self.stats = self.stats.raise(counter);
+        self
     }
 
     // Another current head, and the epoch counter that goes with it.

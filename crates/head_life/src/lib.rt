@@ -2,21 +2,21 @@
 // Knows nothing of the calls that move it, of waiters, of answers or of lines.
 #![tactic(auto)]
 
-use head_anchor::AnchorSlot;
+use head_anchor::ReadAnchor;
 use head_count::{Epoch, HeadStats, Seq};
 use head_current::CurrentHead;
-use head_ready::GenerationSlot;
+use head_ready::Generation;
 
 pub mod head_lifecycle;
 
 // From head_lifecycle.rs.
 
-#[derive(Clone, Copy)]
+#[derive(Clone, Copy, Default)]
 pub struct HeadLifecycle {
     pub current: CurrentHead,
-    pub superseded: AnchorSlot,
-    pub installed: GenerationSlot,
-    pub previous: GenerationSlot,
+    pub superseded: Option<ReadAnchor>,
+    pub installed: Option<Generation>,
+    pub previous: Option<Generation>,
     pub seq: Seq,
     pub claim_epoch: Epoch,
     pub stats: HeadStats,

@@ -1,12 +1,12 @@
 // From head_lifecycle.rs: `ApplyPlan` and `HeadLifecycle::plan_apply`.
 ghost use Rattle.std.specs.Prelude.{◌≡◌};
-ghost use Rattle.head_plan.specs.Plans.{plan_apply, plan_at, plan_held};
+ghost use Rattle.head_plan.specs.Plans.{plan_apply, plan_held};
 
-use head_anchor::storage_memo::{holds, same_anchor};
-use head_anchor::{AnchorSlot, ReadAnchor};
-use head_current::{DeliverySlot, HeadDelivery, HeadTicket};
+use head_anchor::ReadAnchor;
+use head_current::{HeadDelivery, HeadTicket};
 use head_life::HeadLifecycle;
 use head_ready::HeadOutcome;
+use head_ready::delta_snapshot::slot_anchor;
 
 // A refusal that is counted as discarded stands apart from one that is not.
 #[derive(Clone, Copy)]
@@ -16,50 +16,33 @@ pub enum ApplyPlan {
     Admitted(HeadDelivery),
 }
 
-#[tactic(auto, unfolding(crate::specs::Plans::plan_held))]
+#[tactic(auto, unfolding(crate::specs::Plans::plan_held, head_anchor::specs::Anchors::holds, head_anchor::specs::Anchors::same_anchor, hash::specs::Hashes::same_hash))]
 pub(crate) fn plan_held(
-    installed: AnchorSlot,
+    installed: Option<ReadAnchor>,
     held: HeadDelivery,
     ticket: HeadTicket,
     prepared: ReadAnchor,
 ) -> ApplyPlan
     ensures { result ≡ plan_held installed held ticket prepared }
 {
-    let anchor = held.anchor;
-    if held.has_ticket(ticket) {
-        if same_anchor(prepared, anchor) {
-            if holds(installed, anchor) {
-                return ApplyPlan::Refused(HeadOutcome::AlreadySettled);
-            }
-            return ApplyPlan::Admitted(held);
-        }
-        return ApplyPlan::Discarded(HeadOutcome::Foreign(prepared, anchor));
+    if !held.has_ticket(ticket) {
+        return ApplyPlan::Discarded(HeadOutcome::Superseded(held.anchor));
     }
-    ApplyPlan::Discarded(HeadOutcome::Superseded(anchor))
-}
-
-pub(crate) fn plan_at(
-    installed: AnchorSlot,
-    slot: DeliverySlot,
-    ticket: HeadTicket,
-    prepared: ReadAnchor,
-) -> ApplyPlan
-    ensures { result ≡ plan_at installed slot ticket prepared }
-{
-    match slot {
-        DeliverySlot::Nothing => {
-            let anchor = ticket.anchor;
-            return ApplyPlan::Discarded(HeadOutcome::Superseded(anchor));
-        }
-        DeliverySlot::Held(held) => return plan_held(installed, held, ticket, prepared),
+    if prepared != held.anchor {
+        return ApplyPlan::Discarded(HeadOutcome::Foreign(prepared, held.anchor));
     }
+    if installed == Some(held.anchor) {
+        return ApplyPlan::Refused(HeadOutcome::AlreadySettled);
+    }
+    ApplyPlan::Admitted(held)
 }
 
 #[tactic(auto, unfolding(crate::specs::Plans::plan_apply))]
 pub fn plan_apply(life: HeadLifecycle, ticket: HeadTicket, prepared: ReadAnchor) -> ApplyPlan
     ensures { result ≡ plan_apply life ticket prepared }
 {
-    let current = life.current;
-    let installed = life.installed;
-    plan_at(installed.anchor(), current.delivery(), ticket, prepared)
+    match life.current.delivery() {
+        None => ApplyPlan::Discarded(HeadOutcome::Superseded(ticket.anchor)),
+        Some(held) => plan_held(slot_anchor(life.installed), held, ticket, prepared),
+    }
 }

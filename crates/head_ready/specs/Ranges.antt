@@ -1,8 +1,8 @@
 -- Every number of a value is one of 64 bits. The types of a theorem do not say so: there a number has no limit.
+use Rattle.std.specs.Prelude.{Option, None, Some}
 use Rattle.hash.specs.Ranges.{Fits}
 use Rattle.head_anchor.specs.Ranges.{AnchorFits, SkipFits}
 use Rattle.head_ready.specs.declared.Generation.{Generation}
-use Rattle.head_ready.specs.declared.GenerationSlot.{GenerationSlot}
 use Rattle.head_ready.specs.declared.HeadCold.{HeadCold}
 use Rattle.head_ready.specs.declared.HeadReadiness.{HeadReadiness}
 
@@ -22,6 +22,6 @@ pub record GenerationFits (g : Generation) : Type 0 where
   pub handle : Fits g.handle
   pub readiness : ReadinessFits g.readiness
 
-abbrev pub GenerationSlotFits : GenerationSlot → Type 0
-GenerationSlotFits GenerationSlot.Nothing = Unit {0}
-GenerationSlotFits (GenerationSlot.Held g) = GenerationFits g
+abbrev pub GenerationSlotFits : Option Generation → Type 0
+GenerationSlotFits None = Unit {0}
+GenerationSlotFits (Some g) = GenerationFits g

@@ -2,21 +2,13 @@
 ghost use Rattle.std.specs.Prelude.{◌≡◌};
 ghost use Rattle.head_ready.specs.Generations.{slot_anchor};
 
-use crate::GenerationSlot;
-use head_anchor::AnchorSlot;
+use crate::Generation;
+use head_anchor::ReadAnchor;
 
-impl GenerationSlot {
-    // The Rust's `DeltaSnapshotCache::anchor`.
-    #[tactic(auto, unfolding(crate::specs::Generations::slot_anchor))]
-    pub fn anchor(self) -> AnchorSlot
-        ensures { result ≡ slot_anchor self }
-    {
-        match self {
-            GenerationSlot::Nothing => AnchorSlot::Nothing,
-            GenerationSlot::Held(g) => {
-                let anchor = g.anchor;
-                AnchorSlot::At(anchor)
-            }
-        }
-    }
+// The Rust's `DeltaSnapshotCache::anchor`.
+#[tactic(auto, unfolding(crate::specs::Generations::slot_anchor))]
+pub fn slot_anchor(slot: Option<Generation>) -> Option<ReadAnchor>
+    ensures { result ≡ slot_anchor slot }
+{
+    slot.map(|g| g.anchor)
 }

@@ -9,9 +9,6 @@ impl HeadReadiness {
     pub fn is_ready(self) -> bool
         ensures { result ≡ is_ready self }
     {
-        match self {
-            HeadReadiness::Ready => true,
-            HeadReadiness::Cold(_) => false,
-        }
+        matches!(self, HeadReadiness::Ready)
     }
 }

@@ -18,12 +18,6 @@ pub struct Generation {
     pub readiness: HeadReadiness,
 }
 
-#[derive(Clone, Copy)]
-pub enum GenerationSlot {
-    Nothing,
-    Held(Generation),
-}
-
 // From head_lifecycle.rs.
 
 #[derive(Clone, Copy)]
@@ -35,6 +29,7 @@ pub enum HeadCold {
     Settled(Link, BalSkip),
 }
 
+// Document 01 asks for this form: the cold case holds the reason.
 #[derive(Clone, Copy)]
 pub enum HeadReadiness {
     Ready,

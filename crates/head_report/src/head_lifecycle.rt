@@ -4,19 +4,17 @@ ghost use Rattle.head_driver.specs.Answers.{Replies};
 ghost use Rattle.head_report.specs.Report.{report};
 ghost use Rattle.head_report.specs.Reports.{current_report};
 
-use head_current::{CurrentHead, LastReport};
+use head_current::{CurrentHead, DeltaReport};
 use head_driver::head_lifecycle::answered;
 use head_driver::{Answer, Driver, Reply};
 
 #[tactic(auto, unfolding(crate::specs::Reports::current_report))]
-pub(crate) fn current_report(current: CurrentHead) -> LastReport
+pub(crate) fn current_report(current: CurrentHead) -> Option<DeltaReport>
     ensures { result ≡ current_report current }
 {
     match current {
-        CurrentHead::Absent => return LastReport::Nothing,
-        CurrentHead::Unclaimed(_) => return LastReport::Nothing,
-        CurrentHead::Preparing(_) => return LastReport::Nothing,
-        CurrentHead::Settled(s) => return s.report,
+        CurrentHead::Absent | CurrentHead::Unclaimed(_) | CurrentHead::Preparing(_) => None,
+        CurrentHead::Settled(s) => s.report,
     }
 }
 
@@ -24,7 +22,5 @@ pub(crate) fn current_report(current: CurrentHead) -> LastReport
 pub fn report(d: Driver) -> Reply
     ensures { Replies result (report d) }
 {
-    let life = d.life;
-    let current = life.current;
-    answered(d, Answer::Report(current_report(current)))
+    answered(d, Answer::Report(current_report(d.life.current)))
 }

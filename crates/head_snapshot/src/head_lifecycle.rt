@@ -15,8 +15,7 @@ use view_count::head_lifecycle::count_view;
 pub fn viewed(mut d: Driver, view: HeadView, shown: HeadView) -> Reply
     ensures { result ≡ viewed d view shown }
 {
-    let readiness = view.readiness;
-    d.life = count_view(d.life, readiness);
+    d.life = count_view(d.life, view.readiness);
     answered(d, Answer::View(shown))
 }
 

@@ -9,6 +9,5 @@ use head_driver::{Answer, Driver, Reply};
 pub fn stats(d: Driver) -> Reply
     ensures { Replies result (stats d) }
 {
-    let counted = d.life.stats;
-    answered(d, Answer::Stats(counted))
+    answered(d, Answer::Stats(d.life.stats))
 }

@@ -1,8 +1,8 @@
 -- Asking a call's input first changes no reply: each call that tests its input gives the same refusal itself.
+use Rattle.std.specs.Prelude.{cond, None, Some}
 use mathlib.Core.Bool.{Bool, true, false}
 use mathlib.Core.Path.{◌≡◌, refl, sym}
 use lib.Dec.{ltb}
-use Rattle.hash.specs.Logic.{if}
 use Rattle.head_anchor.specs.Lists.{as_prepared}
 use Rattle.head_apply.specs.Apply.{apply}
 use Rattle.head_driver.specs.Parts.{reply_of}
@@ -16,11 +16,11 @@ use Rattle.head_step.specs.Steps.{step, step_past}
 use Rattle.head_call.specs.declared.Call.{Call}
 use Rattle.head_call.specs.declared.InputRefusal.{InputRefusal}
 
-list_asked : (t : Bool) (d : Driver) (call : Call) (r : Reply) → dispatch d call ≡ if t r (reply_of d Answer.ListAtOdds) → step_past (if t InputRefusal.Nothing InputRefusal.ListAtOdds) d call ≡ dispatch d call
+list_asked : (t : Bool) (d : Driver) (call : Call) (r : Reply) → dispatch d call ≡ cond t r (reply_of d Answer.ListAtOdds) → step_past (cond t None (Some InputRefusal.ListAtOdds)) d call ≡ dispatch d call
 list_asked true d call r e = refl
 list_asked false d call r e = sym e
 
-waiter_asked : (t : Bool) (d : Driver) (call : Call) (r : Reply) → dispatch d call ≡ if t r (reply_of d Answer.WaiterOutOfRange) → step_past (if t InputRefusal.Nothing InputRefusal.WaiterOutOfRange) d call ≡ dispatch d call
+waiter_asked : (t : Bool) (d : Driver) (call : Call) (r : Reply) → dispatch d call ≡ cond t r (reply_of d Answer.WaiterOutOfRange) → step_past (cond t None (Some InputRefusal.WaiterOutOfRange)) d call ≡ dispatch d call
 waiter_asked true d call r e = refl
 waiter_asked false d call r e = sym e
 

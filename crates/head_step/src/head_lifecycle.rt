@@ -20,26 +20,26 @@ use head_snapshot::head_lifecycle::snapshot;
 use head_stats::head_lifecycle::stats;
 use head_waits::head_lifecycle::{resume, wait};
 
-// Each of these is exported too, and tests its input itself: none relies on a check made outside.
+// Each of these is exported too, and tests its input itself: none relies on a check made outside. One match, since each call has parameters of its own.
 #[tactic(auto, unfolding(crate::specs::Dispatch::dispatch))]
 pub(crate) fn dispatch(d: Driver, call: Call) -> Reply
     ensures { result ≡ dispatch d call }
 {
     match call {
-        Call::Deliver(anchor, parent_hash, cold) => return deliver(d, anchor, parent_hash, cold),
-        Call::Claim(ticket) => return claim(d, ticket),
-        Call::Release(owner) => return release(d, owner),
-        Call::Apply(ticket, list, handle, carried, report) => return apply(
-            d, ticket, list, handle, carried, report,
-        ),
-        Call::Snapshot(anchor, spare) => return snapshot(d, anchor, spare),
-        Call::Wait(n, anchor, spare) => return wait(d, n, anchor, spare),
-        Call::Resume(n, spare) => return resume(d, n, spare),
-        Call::Completion(anchor) => return completion(d, anchor),
-        Call::Link(parent, child, parent_hash) => return link(d, parent, child, parent_hash),
-        Call::Report => return report(d),
-        Call::Stats => return stats(d),
-        Call::Heads => return heads(d),
+        Call::Deliver(anchor, parent_hash, cold) => deliver(d, anchor, parent_hash, cold),
+        Call::Claim(ticket) => claim(d, ticket),
+        Call::Release(owner) => release(d, owner),
+        Call::Apply(ticket, list, handle, carried, report) => {
+            apply(d, ticket, list, handle, carried, report)
+        }
+        Call::Snapshot(anchor, spare) => snapshot(d, anchor, spare),
+        Call::Wait(n, anchor, spare) => wait(d, n, anchor, spare),
+        Call::Resume(n, spare) => resume(d, n, spare),
+        Call::Completion(anchor) => completion(d, anchor),
+        Call::Link(parent, child, parent_hash) => link(d, parent, child, parent_hash),
+        Call::Report => report(d),
+        Call::Stats => stats(d),
+        Call::Heads => heads(d),
     }
 }
 
@@ -48,8 +48,8 @@ pub fn step(d: Driver, call: Call) -> Reply
     ensures { Replies result (step d call) }
 {
     match input_refusal(call) {
-        InputRefusal::Nothing => return dispatch(d, call),
-        InputRefusal::ListAtOdds => return answered(d, Answer::ListAtOdds),
-        InputRefusal::WaiterOutOfRange => return answered(d, Answer::WaiterOutOfRange),
+        None => dispatch(d, call),
+        Some(InputRefusal::ListAtOdds) => answered(d, Answer::ListAtOdds),
+        Some(InputRefusal::WaiterOutOfRange) => answered(d, Answer::WaiterOutOfRange),
     }
 }

@@ -1,15 +1,13 @@
 -- Document 01, "Lifecycle": what `snapshot` reads, first that fits: installed (its readiness); current and not settled, `unprepared`, the provisional handle; previous (its
 -- readiness); else the spare handle given, `superseded` for the superseded anchor, otherwise `undelivered`. The Rust: `BalHeadDriver::snapshot` and `HeadLifecycle::lookup`,
 -- of head_lifecycle.rs.
-use Rattle.std.specs.Prelude.{ℕ, Bool}
-use Rattle.hash.specs.Logic.{if}
+use Rattle.head_ready.specs.declared.Generation.{Generation}
+use Rattle.std.specs.Prelude.{ℕ, Bool, Option, None, Some, cond}
 use Rattle.head_anchor.specs.Anchors.{holds, same_anchor}
-use Rattle.head_anchor.specs.declared.AnchorSlot.{AnchorSlot}
 use Rattle.head_anchor.specs.declared.ReadAnchor.{ReadAnchor}
 use Rattle.head_current.specs.declared.CurrentHead.{CurrentHead}
 use Rattle.head_current.specs.declared.UnsettledHead.{UnsettledHead}
 use Rattle.head_life.specs.declared.HeadLifecycle.{HeadLifecycle}
-use Rattle.head_ready.specs.declared.GenerationSlot.{GenerationSlot}
 use Rattle.head_ready.specs.declared.HeadCold.{HeadCold}
 use Rattle.head_ready.specs.declared.HeadReadiness.{HeadReadiness}
 use Rattle.head_ready.specs.declared.HeadView.{HeadView}
@@ -19,13 +17,13 @@ abbrev pub view_of : Source → ℕ → HeadReadiness → HeadView
 view_of source handle readiness = record { source = source; handle = handle; readiness = readiness }
 
 -- a generation's view with its own readiness, if it is at that anchor
-unfoldable pub generation_view : Source → GenerationSlot → ReadAnchor → HeadView → HeadView
-generation_view source GenerationSlot.Nothing a other = other
-generation_view source (GenerationSlot.Held g) a other = if (same_anchor g.anchor a) (view_of source g.handle g.readiness) other
+unfoldable pub generation_view : Source → Option Generation → ReadAnchor → HeadView → HeadView
+generation_view source None a other = other
+generation_view source (Some g) a other = cond (same_anchor g.anchor a) (view_of source g.handle g.readiness) other
 
 unfoldable pub provisional_view : UnsettledHead → ReadAnchor → HeadView → HeadView
 provisional_view u a other =
-    if (same_anchor u.delivery.anchor a)
+    cond (same_anchor u.delivery.anchor a)
     (view_of Source.Provisional u.provisional (HeadReadiness.Cold HeadCold.Unprepared))
     other
 
@@ -37,10 +35,10 @@ current_view (CurrentHead.Preparing u) a other = provisional_view u a other
 current_view (CurrentHead.Settled s) a other = other
 
 unfoldable pub spare_reason : Bool → HeadCold
-spare_reason superseded = if superseded HeadCold.Superseded HeadCold.Undelivered
+spare_reason superseded = cond superseded HeadCold.Superseded HeadCold.Undelivered
 
 -- else the spare handle given
-unfoldable pub spare_view : AnchorSlot → ReadAnchor → ℕ → HeadView
+unfoldable pub spare_view : Option ReadAnchor → ReadAnchor → ℕ → HeadView
 spare_view superseded a spare = view_of Source.Spare spare (HeadReadiness.Cold (spare_reason (holds superseded a)))
 
 unfoldable pub view : HeadLifecycle → ReadAnchor → ℕ → HeadView

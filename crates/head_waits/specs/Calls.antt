@@ -1,7 +1,6 @@
 -- Document 01, "The sixteen waiters": the calls wait and resume on a driver. Wait tests 3, 15; resume 3, 16. The Rust: `BalHeadDriver::wait_for_head`, `abandoned_view` and
 -- `HeadLifecycle::registration`, of head_lifecycle.rs.
-use Rattle.std.specs.Prelude.{ℕ, Bool, false, List, ltb, get_or, set}
-use Rattle.hash.specs.Logic.{if}
+use Rattle.std.specs.Prelude.{ℕ, Bool, false, List, ltb, get_or, set, cond}
 use Rattle.head_anchor.specs.Anchors.{same_anchor}
 use Rattle.head_attempt.specs.Waiters.{slot_of}
 use Rattle.head_driver.specs.Parts.{reply_of}
@@ -38,7 +37,7 @@ unowned v = view_of v.source v.handle (unowned_readiness v.readiness)
 -- the snapshot with reason `abandoned`; if that snapshot was ready, the spare handle is given with source `spare`, yet ready-views rises (`viewed_by` counts the snapshot): `BalHeadDriver::abandoned_view`
 unfoldable pub abandoned_view : HeadView → ℕ → HeadView
 abandoned_view v spare =
-    if (is_ready v.readiness)
+    cond (is_ready v.readiness)
     (view_of Source.Spare spare (HeadReadiness.Cold HeadCold.Abandoned))
     (view_of v.source v.handle (HeadReadiness.Cold HeadCold.Abandoned))
 
@@ -64,7 +63,7 @@ preparing_at (CurrentHead.Settled s) a = false
 -- parks it if the current head is preparing at that anchor, else answers a view at once, `unprepared` shown as `abandoned`
 unfoldable pub join : Driver → ℕ → ReadAnchor → ℕ → Reply
 join d n a spare =
-    if (preparing_at d.life.current a)
+    cond (preparing_at d.life.current a)
     (reply_of (put d n Waiter.Parked) Answer.Parked)
     (viewed_by d n (view d.life a spare) (unowned (view d.life a spare)))
 
@@ -85,7 +84,7 @@ resume_as d (Waiter.Ended a) n spare = join d n a spare
 -- `wait`: 3 if the number is above 15; 15 if the waiter is not free. It parks the waiter if the current head is preparing at that anchor, else answers a view at once.
 unfoldable pub wait : Driver → ℕ → ReadAnchor → ℕ → Reply
 wait d n a spare =
-    if (ltb n 16)
+    cond (ltb n 16)
     (wait_as d (waiter_at d.waiters n) n a spare)
     (reply_of d Answer.WaiterOutOfRange)
 
@@ -93,6 +92,6 @@ wait d n a spare =
 -- end, as `wait` anew. A view frees the number.
 unfoldable pub resume : Driver → ℕ → ℕ → Reply
 resume d n spare =
-    if (ltb n 16)
+    cond (ltb n 16)
     (resume_as d (waiter_at d.waiters n) n spare)
     (reply_of d Answer.WaiterOutOfRange)

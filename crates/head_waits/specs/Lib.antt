@@ -1,3 +1,2 @@
--- Document 01, "The sixteen waiters": `wait` and `resume`. Calls is the paper's; Parts is what the code goes through.
+-- Document 01, "The sixteen waiters": `wait` and `resume`. All of it is the paper's.
 pub mod Calls
-pub mod Parts

@@ -14,20 +14,16 @@ pub(crate) fn woken(end: HeadCompletion, anchor: ReadAnchor, waiter: Waiter) -> 
     ensures { result ≡ woken end anchor waiter }
 {
     match waiter {
-        Waiter::Free => Waiter::Free,
         Waiter::Parked => match end {
             HeadCompletion::Open => Waiter::Parked,
-            HeadCompletion::Settled => Waiter::Ended(anchor),
-            HeadCompletion::Superseded => Waiter::Ended(anchor),
+            HeadCompletion::Settled | HeadCompletion::Superseded => Waiter::Ended(anchor),
             HeadCompletion::Abandoned => Waiter::Abandoned(anchor),
         },
-        Waiter::Abandoned(at) => Waiter::Abandoned(at),
-        Waiter::Ended(at) => Waiter::Ended(at),
+        Waiter::Free | Waiter::Abandoned(_) | Waiter::Ended(_) => waiter,
     }
 }
 
 // The preparation at that anchor has ended, and so has the wait of everyone parked on it.
-#[tactic(auto, using(crate::proofs::Wakes::wake_from, crate::proofs::Wakes::from_zero, crate::proofs::Wakes::from_next, crate::proofs::Wakes::from_end))]
 pub(crate) fn wake(
     end: HeadCompletion,
     anchor: ReadAnchor,
@@ -36,13 +32,10 @@ pub(crate) fn wake(
     ensures { result ≡ wake end anchor waiters }
 {
     let mut out = waiters;
-    let mut i: usize = 0;
-    while i < 16 {
-        let slot = out[i];
-        let waiter = slot.waiter;
-        let next = woken(end, anchor, waiter);
-        out[i] = WaiterSlot { waiter: next };
-        i += 1;
+    for slot in &mut out {
+        *slot = WaiterSlot {
+            waiter: woken(end, anchor, slot.waiter),
+        };
     }
     out
 }
@@ -56,8 +49,7 @@ pub(crate) fn wake_current(
 ) -> [WaiterSlot; 16]
     ensures { result ≡ wake_current end life.current waiters }
 {
-    let current = life.current;
-    let CurrentHead::Preparing(u) = current else {
+    let CurrentHead::Preparing(u) = life.current else {
         return waiters;
     };
     wake(end, u.delivery.anchor, waiters)
@@ -67,10 +59,8 @@ pub(crate) fn wake_current(
 pub fn ending(d: Driver, next: HeadLifecycle, end: HeadCompletion) -> Driver
     ensures { result ≡ ending_with d next end }
 {
-    let old = d.waiters;
-    let waiters = wake_current(end, d.life, old);
     Driver {
         life: next,
-        waiters,
+        waiters: wake_current(end, d.life, d.waiters),
     }
 }

@@ -1,6 +1,6 @@
 // headscript: answers the lines of its standard input on its standard output, document 01's program. It only reads and writes; every answer is the
 // library's. Whatever a read brought is answered before the next read, so that a person who types sees each answer at once.
-// Knows nothing of lines, calls or the state: these are the library's.
+// Knows nothing of lines, calls or the state: these are the library's. The part of a line that is held goes beside its count, as `feed` asks for it.
 #![tactic(auto)]
 
 ghost use Rattle.script.specs.Feeds.{reading};
@@ -35,6 +35,7 @@ fn answer_all(rt: &impl Print, d: Driver, pending: &mut [u8], held: usize, input
         written: 0,
     };
     let mut at = 0;
+    // Not a `for`: a turn takes as much as its answers had room for.
     while at < input.len() {
         let next = answer_some(rt, fed.driver, pending, fed.held, &input[at..]);
         if next.taken == 0 {

@@ -1,5 +1,5 @@
 -- Document 01, "Lines": a reader record borrowing the line and counting bytes taken. The word that stands next, and the reader once that word's bytes are taken.
-use Rattle.std.specs.Prelude.{ℕ, ◌+◌, List, length, drop}
+use Rattle.std.specs.Prelude.{ℕ, ◌+◌, List, length, drop, Option, Some, None}
 use Rattle.text.specs.Words.{word}
 use Rattle.line_reader.specs.declared.LineReader.{LineReader}
 
@@ -7,6 +7,15 @@ use Rattle.line_reader.specs.declared.LineReader.{LineReader}
 abbrev pub word_next : LineReader → List ℕ
 word_next r = word (drop r.taken r.line.now)
 
+-- the line stays, and so many bytes more are taken
+abbrev pub took : ℕ → LineReader → LineReader
+took n r = record { line = r.line; taken = r.taken + n }
+
 -- the line stays, and the word's bytes are taken
 abbrev pub took_word : LineReader → LineReader
-took_word r = record { line = r.line; taken = r.taken + length (word_next r) }
+took_word r = took (length (word_next r)) r
+
+-- one byte is taken where it was found, and else none
+abbrev pub took_byte : {A : Type 0} → Option A → LineReader → LineReader
+took_byte None r = r
+took_byte (Some x) r = took 1 r

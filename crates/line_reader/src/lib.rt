@@ -1,12 +1,15 @@
-// A reader that borrows a line and counts the bytes taken. Its functions are thin: each takes it apart and leaves the work to a
-// function over the line and a place. Whoever has no reader calls `line_word::word_from`, whose parameters are plain.
-// Knows nothing of keywords, numbers or calls.
+// A reader that borrows a line and counts the bytes taken. Its methods are thin: what a word is, the tokenizer says, a function over
+// the line and a place. Where a reader does not find what it is asked for, it hands back `None` and has taken nothing.
+// Knows nothing of numbers, hashes or calls.
 #![tactic(auto)]
 
-ghost use Rattle.std.specs.Prelude.{◌≡◌, drop};
-ghost use Rattle.line_reader.specs.Taken.{word_next, took_word};
+ghost use Rattle.std.specs.Prelude.{[], ◌∷◌, ◌≡◌, cond, drop};
+ghost use Rattle.line_reader.specs.Taken.{word_next, took_word, took_byte};
+ghost use Rattle.line_reader.specs.Reads.{rest, rest_after};
+ghost use Rattle.text.specs.Rests.{after, at_end, past_word, says, word_here};
 
-use text::word::next_word;
+use text::word::{next_word, rest};
+use text_same::same;
 
 #[derive(Clone, Copy)]
 pub struct LineReader<'a> {
@@ -14,43 +17,72 @@ pub struct LineReader<'a> {
     pub taken: usize,
 }
 
-// The rest of a line from a place on. It is empty past the line's end.
-#[tactic(auto, using(crate::proofs::Lines::rest_past, crate::proofs::Lines::rest_here))]
-pub(crate) fn rest_from(line: &[u8], at: usize) -> &[u8]
-    ensures { result.now ≡ drop at line.now }
-{
-    if at > line.len() {
-        return &line[0..0];
+impl<'a> LineReader<'a> {
+    // A reader of a line of which that many bytes are taken: 0 for a whole line.
+    pub fn new(line: &'a [u8], taken: usize) -> LineReader<'a>
+        ensures { (result.line ≡ line.entry) × (result.taken ≡ taken) }
+    {
+        LineReader { line, taken }
     }
-    &line[at..]
-}
 
-// A reader of a line of which that many bytes are taken: 0 for a whole line.
-pub fn reader_of<'a>(line: &'a [u8], taken: usize) -> LineReader<'a>
-    ensures { (result.line ≡ line.entry) × (result.taken ≡ taken) }
-{
-    LineReader { line, taken }
-}
+    // The next word, as part of the caller's line; its bytes are taken.
+    #[tactic(auto, using(crate::proofs::Lines::place_after, crate::proofs::Lines::word_passed), unfolding(text::specs::Rests::word_here))]
+    pub fn take_word(&mut self) -> &'a [u8]
+        ensures word { (result.now ≡ word_next self.old) × (self.new ≡ took_word self.old) }
+        ensures word_here { result.now ≡ word_here (rest self.old) }
+        ensures rest { past_word (rest self.old) ≡ rest self.new }
+    {
+        let word = next_word(self.line, self.taken);
+        self.taken += word.len();
+        word
+    }
 
-// The next word, as part of the caller's line; its bytes are taken.
-#[tactic(auto, using(crate::proofs::Lines::place_after))]
-pub fn take_word<'s, 'a>(r: &'s mut LineReader<'a>) -> &'a [u8]
-    ensures { (result.now ≡ word_next r.old) × (r.new ≡ took_word r.old) }
-{
-    let w = next_word(r.line, r.taken);
-    r.taken = r.taken + w.len();
-    w
-}
+    // Takes the next word where it is that keyword; nothing is taken where it is another.
+    #[tactic(auto, unfolding(text::specs::Rests::says))]
+    pub fn past_keyword(&mut self, keyword: &[u8]) -> bool
+        ensures said { result ≡ says keyword.now (rest self.old) }
+        ensures reader { self.new ≡ cond result (took_word self.old) self.old }
+        ensures rest { cond result (past_word (rest self.old)) (rest self.old) ≡ rest self.new }
+    {
+        let mut ahead = *self;
+        if !same(ahead.take_word(), keyword) {
+            return false;
+        }
+        *self = ahead;
+        true
+    }
 
-pub fn bytes_taken<'a>(r: LineReader<'a>) -> usize
-    ensures { result ≡ r.entry.taken }
-{
-    r.taken
-}
+    // Takes one byte where it stands next; nothing is taken where another does, or none.
+    #[tactic(auto, using(crate::proofs::Lines::byte_end, crate::proofs::Lines::byte_other, crate::proofs::Lines::byte_on))]
+    pub fn past_byte(&mut self, byte: u8) -> Option<()>
+        ensures reader { self.new ≡ took_byte result self.old }
+        ensures rest { after (byte ∷ []) (rest self.old) ≡ rest_after result self.new }
+    {
+        if *self.line.get(self.taken)? != byte {
+            return None;
+        }
+        self.taken += 1;
+        Some(())
+    }
 
-// What is left of the line.
-pub fn left<'a>(r: LineReader<'a>) -> &'a [u8]
-    ensures { result.now ≡ drop r.entry.taken r.entry.line.now }
-{
-    rest_from(r.line, r.taken)
+    // Whether all of the line is read.
+    #[tactic(auto, using(crate::proofs::Lines::end_here))]
+    pub fn at_end(&self) -> bool
+        ensures { result ≡ at_end (rest self.now) }
+    {
+        self.taken >= self.line.len()
+    }
+
+    pub fn bytes_taken(&self) -> usize
+        ensures { result ≡ self.now.taken }
+    {
+        self.taken
+    }
+
+    // What is left of the line.
+    pub fn left(&self) -> &'a [u8]
+        ensures { result.now ≡ drop self.now.taken self.now.line.now }
+    {
+        rest(self.line, self.taken)
+    }
 }

@@ -2,25 +2,23 @@
 // Knows nothing of what holds a link, nor of an answer's line.
 #![tactic(auto)]
 
-ghost use Rattle.std.specs.Prelude.{◌+◌, ◌≤◌, length};
 ghost use Rattle.value_text.specs.Texts.{fault_text};
-ghost use Rattle.text.specs.Writes.{Wrote};
+ghost use Rattle.text_put.specs.Writers.{Puts, Room};
 
 use head_anchor::Link;
-use text_put::put::put;
+use text_put::TextWriter;
 
 // Puts what is wrong with a link, or `none`.
 #[tactic(auto, unfolding(value_text::specs::Texts::fault_text, head_anchor::specs::Values::fault_value, value_text::specs::Values::value_text, value_text::specs::Words::word_text))]
-pub fn put_fault(buf: &mut [u8], at: usize, link: Link) -> usize
-    requires { at + 15 ≤ length buf.old }
-    ensures wrote { Wrote buf.old buf.new at result (fault_text link) }
-    ensures upper_bound { result ≤ at + 15 }
+pub fn put_fault(out: &mut TextWriter<'_>, link: Link)
+    requires { Room out.old 15 }
+    ensures { Puts out.old out.new 15 (fault_text link) }
 {
     match link {
-        Link::Linked => put(buf, at, b"none"),
-        Link::NoParent => put(buf, at, b"no-parent"),
-        Link::NotConsecutive => put(buf, at, b"not-consecutive"),
-        Link::HashUnknown => put(buf, at, b"hash-unknown"),
-        Link::HashMismatch => put(buf, at, b"hash-mismatch"),
+        Link::Linked => out.text(b"none"),
+        Link::NoParent => out.text(b"no-parent"),
+        Link::NotConsecutive => out.text(b"not-consecutive"),
+        Link::HashUnknown => out.text(b"hash-unknown"),
+        Link::HashMismatch => out.text(b"hash-mismatch"),
     }
 }

@@ -1,4 +1,5 @@
 -- What is held of a line: its first 513 bytes.
+use Rattle.std.specs.Prelude.{cond}
 use Prim.Native.Nat.{ℕ, ◌+◌, ◌≤◌, ◌<◌}
 use native.Mathlib.Numerals.{add-one}
 use native.Mathlib.Omega.{arith}
@@ -9,7 +10,6 @@ use lib.Dec.{ltb}
 use lib.ListN.{length, take, set, length-set}
 use lib.Seq.{length-take-le, take_all, take-append-le, take-suc-set}
 use borrow.Author.Tests.{ltb-true, ltb-false}
-use Rattle.hash.specs.Logic.{if}
 use Rattle.pending.specs.Kept.{Part, part, keep_byte, keep_all, line_so_far}
 
 -- a buffer that has room for 513 bytes, and no more held
@@ -21,7 +21,7 @@ pub sound_byte : (p : Part) (b : ℕ) → Sound p → Sound (keep_byte p b)
 unfolding keep_byte
 sound_byte p b h = go (ltb p.held 513) refl
   where
-    go : (t : Bool) → ltb p.held 513 ≡ t → Sound (if t (part (set p.buffer p.held b) (p.held + 1)) p)
+    go : (t : Bool) → ltb p.held 513 ≡ t → Sound (cond t (part (set p.buffer p.held b) (p.held + 1)) p)
     go true e = record { room = rw length-set h.room; few = let k : p.held < 513 = ltb-true _ _ e in omega arith }
     go false e = h
 
@@ -36,7 +36,7 @@ unfolding keep_byte line_so_far
 held_byte p b s h = go (ltb p.held 513) refl
   where
     go : (t : Bool) → ltb p.held 513 ≡ t
-        → take 513 (line_so_far (if t (part (set p.buffer p.held b) (p.held + 1)) p) ++ s) ≡ take 513 (line_so_far p ++ (b ∷ s))
+        → take 513 (line_so_far (cond t (part (set p.buffer p.held b) (p.held + 1)) p) ++ s) ≡ take 513 (line_so_far p ++ (b ∷ s))
     go true e = let k : p.held < 513 = ltb-true _ _ e in
         rw (add-one p.held, take-suc-set p.buffer p.held b (let r = h.room in omega arith), append_assoc)
     go false e =

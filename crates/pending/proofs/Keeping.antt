@@ -1,83 +1,20 @@
--- The steps of `line_feed_among`, `past_blocks`, `line_feed_at`, `hold` and `keep`.
-use Prim.Native.Nat.{ℕ, suc, ◌+◌, ◌-◌, ◌≤◌, ◌<◌}
-use native.Mathlib.Nat.{add-zero, add-suc, suc-add}
+-- The steps of `hold` and `keep`.
+use Prim.Native.Nat.{ℕ, zero, suc, ◌+◌, ◌-◌, ◌≤◌, ◌<◌}
+use native.Mathlib.Nat.{le_of_suc-le-suc, add-zero, add-suc, suc-add}
 use native.Mathlib.Numerals.{add-one}
 use native.Mathlib.Omega.{arith}
 use mathlib.Core.Bool.{Bool, true, false}
 use mathlib.Core.List.{List, [], ◌∷◌}
-use mathlib.Core.Logic.{◌≢◌}
 use mathlib.Core.Path.{◌≡◌, refl, ap, sym, ◌∙◌}
-use lib.Dec.{ltb}
-use lib.ListN.{length, take, drop, get_or, set, length-append, length-drop, drop_of_length-le, take-append-drop}
-use lib.Seq.{drop-cons, drop-drop, length-take-le, sets, take_all, take-append_seam, take-length, take-nil}
-use borrow.Author.Tests.{eq-eqb, ne_eqb, ltb-true, ltb-false}
-use Rattle.hash.specs.Logic.{if}
+use lib.Dec.{eqb, ltb}
+use Rattle.std.specs.Prelude.{Some, None, cond}
+use Rattle.memchr.specs.Find.{IsFirstByte, is_byte}
+use lib.ListN.{length, take, drop, get_or, set, length-append}
+use lib.Seq.{length-take-le, sets, take_all, take-length, take-nil}
+use borrow.Author.Tests.{ltb-true, ltb-false}
 use Rattle.text.specs.Writes.{Wrote}
 use Rattle.pending.specs.Kept.{Keeps, part, has_line_feed, keep_all, keep_byte, room_for, through_line_feed, to_line_feed}
-use Rattle.pending.proofs.LineFeeds.{feed_front, feed_not_there, feed_there, no_feed, through_feed, to_feed_past}
-
--- ---- the loop of `line_feed_among`: one was found, or is to be found in the rest
-
-module _ (s : List ℕ) (i : ℕ) (found : Bool) (g : if found true (has_line_feed (drop i s)) ≡ has_line_feed s) where
-  pub among_found : (now : Bool) → i < length s → get_or s i 0 ≡ 10 → now ≡ true → if now true (has_line_feed (drop (i + 1) s)) ≡ has_line_feed s
-  unfolding has_line_feed
-  among_found now h e k =
-      let z : has_line_feed (drop i s) ≡ true = rw (drop-cons s i 0 h, eq-eqb _ _ e) in
-      rw k (sym (all_true found (has_line_feed (drop i s)) z) ∙ g)
-    where
-      all_true : (t u : Bool) → u ≡ true → if t true u ≡ true
-      all_true true u e = refl
-      all_true false u e = e
-
-  pub among_not : (now : Bool) → i < length s → get_or s i 0 ≢ 10 → now ≡ found → if now true (has_line_feed (drop (i + 1) s)) ≡ has_line_feed s
-  unfolding has_line_feed
-  among_not now h ne k =
-      let z : has_line_feed (drop i s) ≡ has_line_feed (drop (i + 1) s) = rw (drop-cons s i 0 h, ne_eqb _ _ ne, add-one i) in
-      rw k (ap (λ (u : Bool). if found true u) (sym z) ∙ g)
-
-  pub among_all : length s ≤ i → found ≡ has_line_feed s
-  unfolding has_line_feed
-  among_all h =
-      let z : has_line_feed (drop i s) ≡ false = rw (drop_of_length-le s h) in
-      sym (or_false found) ∙ ap (λ (u : Bool). if found true u) (sym z) ∙ g
-    where
-      or_false : (t : Bool) → if t true false ≡ t
-      or_false true = refl
-      or_false false = refl
-
--- ---- the loop of `past_blocks`
-
-pub past_block : (input : List ℕ) (at i : ℕ) (found : Bool) → i ≤ length input → i + length (to_line_feed (drop i input)) ≡ at + length (to_line_feed (drop at input))
-    → 16 ≤ length input - i → found ≡ has_line_feed (take (i + 16 - i) (drop i input)) → found ≡ false
-    → i + 16 + length (to_line_feed (drop (i + 16) input)) ≡ at + length (to_line_feed (drop at input))
-past_block input at i found within g h told none =
-    let k : i + 16 - i ≡ 16 = omega arith in
-    let bytes : has_line_feed (take 16 (drop i input)) ≡ false = (ap (λ (n : ℕ). has_line_feed (take n (drop i input))) (sym k) ∙ sym told ∙ none) in
-    let l = length-drop i input in
-    let n : length (take 16 (drop i input)) ≡ 16 = length-take-le 16 (drop i input) (omega arith) in
-    let f : length (to_line_feed (drop i input)) ≡ 16 + length (to_line_feed (drop (i + 16) input))
-    = (ap (λ (s : List ℕ). length (to_line_feed s)) (sym (take-append-drop 16 (drop i input)))
-    ∙ ap length (to_feed_past (take 16 (drop i input)) (drop 16 (drop i input)) bytes)
-    ∙ length-append (take 16 (drop i input)) (to_line_feed (drop 16 (drop i input)))
-    ∙ rw (n, drop-drop 16 i input)) in
-    omega arith
-
--- ---- the loop of `line_feed_at`: from i on as many bytes stand before the line feed as make it whole from the first place on
-
-module _ (input : List ℕ) (at i : ℕ) (g : i + length (to_line_feed (drop i input)) ≡ at + length (to_line_feed (drop at input))) where
-  pub at_feed : i < length input → get_or input i 0 ≡ 10 → i ≡ at + length (to_line_feed (drop at input))
-  unfolding to_line_feed
-  at_feed h e = let z : length (to_line_feed (drop i input)) ≡ 0 = rw (drop-cons input i 0 h, eq-eqb _ _ e) in omega arith
-
-  pub at_end : length input ≤ i → i ≡ at + length (to_line_feed (drop at input))
-  unfolding to_line_feed
-  at_end h = let z : length (to_line_feed (drop i input)) ≡ 0 = rw (drop_of_length-le input h) in omega arith
-
-  pub past_byte : i < length input → get_or input i 0 ≢ 10 → i + 1 + length (to_line_feed (drop (i + 1) input)) ≡ at + length (to_line_feed (drop at input))
-  unfolding to_line_feed
-  past_byte h ne =
-      let e : length (to_line_feed (drop i input)) ≡ suc (length (to_line_feed (drop (i + 1) input))) = rw (drop-cons input i 0 h, ne_eqb _ _ ne, add-one i) in
-      omega arith
+use Rattle.pending.proofs.LineFeeds.{feed_not_there, feed_there, no_feed, through_feed}
 
 -- ---- what `hold` keeps of bytes is one text
 
@@ -89,7 +26,7 @@ unfolding keep_byte
 kept_byte b s buffer held more = go (ltb held 513) refl
   where
     go : (t : Bool) → ltb held 513 ≡ t
-        → keep_all (if t (part (set buffer held b) (held + 1)) (part buffer held)) s ≡ part (sets buffer held (take (513 - held) (b ∷ s))) (held + length (take (513 - held) (b ∷ s)))
+        → keep_all (cond t (part (set buffer held b) (held + 1)) (part buffer held)) s ≡ part (sets buffer held (take (513 - held) (b ∷ s))) (held + length (take (513 - held) (b ∷ s)))
     go true e =
         let h : held < 513 = ltb-true held 513 e in
         let k : 513 - held ≡ suc (513 - (held + 1)) = omega arith in
@@ -109,7 +46,7 @@ room_takes : (s : List ℕ) (held : ℕ) → take (room_for (length s) held) s �
 unfolding room_for
 room_takes s held = go (ltb held 513) (ltb (length s) (513 - held)) refl refl
   where
-    go : (t u : Bool) → ltb held 513 ≡ t → ltb (length s) (513 - held) ≡ u → take (if t (if u (length s) (513 - held)) 0) s ≡ take (513 - held) s
+    go : (t u : Bool) → ltb held 513 ≡ t → ltb (length s) (513 - held) ≡ u → take (cond t (cond u (length s) (513 - held)) 0) s ≡ take (513 - held) s
     go true true e f = let h : length s < 513 - held = ltb-true _ _ f in take-length s ∙ sym (take_all (513 - held) s (omega arith))
     go true false e f = refl
     go false u e f = let h : 513 ≤ held = ltb-false _ _ e in let k : 513 - held ≡ 0 = omega arith in rw k
@@ -129,7 +66,7 @@ module _ (s buffer : List ℕ) (held r : ℕ) (told : r ≡ room_for (length s) 
   unfolding room_for
   room_within = rw told (go (ltb held 513) (ltb (length s) (513 - held)) refl)
     where
-      go : (t u : Bool) → ltb (length s) (513 - held) ≡ u → if t (if u (length s) (513 - held)) 0 ≤ length s
+      go : (t u : Bool) → ltb (length s) (513 - held) ≡ u → cond t (cond u (length s) (513 - held)) 0 ≤ length s
       go true true f = omega arith
       go true false f = let h : 513 - held ≤ length s = ltb-false _ _ f in h
       go false u f = omega arith
@@ -138,7 +75,7 @@ module _ (s buffer : List ℕ) (held r : ℕ) (told : r ≡ room_for (length s) 
   unfolding room_for
   room_held ne = go (ltb held 513) (ltb (length s) (513 - held)) refl refl told
     where
-      go : (t u : Bool) → ltb held 513 ≡ t → ltb (length s) (513 - held) ≡ u → r ≡ if t (if u (length s) (513 - held)) 0 → held + r ≤ 513
+      go : (t u : Bool) → ltb held 513 ≡ t → ltb (length s) (513 - held) ≡ u → r ≡ cond t (cond u (length s) (513 - held)) 0 → held + r ≤ 513
       go true true e f k = let h : held < 513 = ltb-true _ _ e in let l : length s < 513 - held = ltb-true _ _ f in omega arith
       go true false e f k = let h : held < 513 = ltb-true _ _ e in omega arith
       go false u e f k = absurd (ne k)
@@ -148,44 +85,30 @@ module _ (s buffer : List ℕ) (held r : ℕ) (told : r ≡ room_for (length s) 
 
 -- ---- what `keep` does
 
-pub end_within : (input : List ℕ) (at end : ℕ) → at < length input → end ≡ at + length (to_line_feed (drop at input)) → end ≤ length input
-end_within input at end h told =
-    let u = to_line_feed (drop at input) in
-    let f : length (drop at input) ≡ length u + length (drop (length u) (drop at input)) = (ap length (feed_front (drop at input)) ∙ length-append u _) in
-    let l = length-drop at input in
-    omega arith
+-- the first line feed of a text ends what stands before it
+before_feed : (s : List ℕ) (n : ℕ) → n ≤ length s → (n < length s → eqb (get_or s n 0) 10 ≡ true) → ((k : ℕ) → k < n → eqb (get_or s k 0) 10 ≡ true → ⊥) → to_line_feed s ≡ take n s
+unfolding to_line_feed
+before_feed [] n h here none = rw take-nil
+before_feed (b ∷ s) zero h here none = rw (here (omega arith))
+before_feed (b ∷ s) (suc n) h here none = go (eqb b 10) refl (before_feed s n (le_of_suc-le-suc h) (λ l. here (omega arith)) (λ k l. none (suc k) (omega arith)))
+  where
+    go : (t : Bool) → eqb b 10 ≡ t → to_line_feed s ≡ take n s → cond t [] (b ∷ to_line_feed s) ≡ b ∷ take n s
+    go true e more = absurd (none 0 (omega arith) e)
+    go false e more = ap (λ (r : List ℕ). b ∷ r) more
 
 module _ (old : List ℕ) (held : ℕ) (input : List ℕ) (at : ℕ) where
-  pub keep_nothing : length input ≤ at → Keeps old held old input at (record { held = held; at = at; ended = false })
-  unfolding keep_all to_line_feed through_line_feed has_line_feed
-  keep_nothing h = record {
-    kept = rw (drop_of_length-le input h);
-    place = rw (drop_of_length-le input h, add-zero);
-    ended = rw (drop_of_length-le input h);
-  }
+  module _ (rest : List ℕ) (new : List ℕ) (m : ℕ) (e : rest ≡ drop at input) where
+    pub keep_feed : (n : ℕ) → IsFirstByte (is_byte 10) rest (Some n) → part new m ≡ keep_all (part old held) (take n rest) → Keeps old held new input at (record { held = m; at = at + n + 1; ended = true })
+    keep_feed n first holds =
+        let before : to_line_feed rest ≡ take n rest = before_feed rest n (omega (arith, first.0.high)) (λ l. first.1) (λ k l. first.0.before k (omega arith) l) in
+        let long : length (to_line_feed rest) ≡ n = (ap length before ∙ length-take-le n rest (omega (arith, first.0.high))) in
+        let there : has_line_feed rest ≡ true = feed_there rest (omega (arith, first.0.high)) in
+        let whole : length (through_line_feed rest) ≡ n + 1 = (ap length (through_feed rest there) ∙ length-append (to_line_feed rest) (10 ∷ []) ∙ omega arith) in
+        record { kept = rw (← e) (holds ∙ ap (keep_all (part old held)) (sym before)); place = rw (← e) (omega arith); ended = rw (← e) (sym there) }
 
-  -- what is kept are the bytes before the line feed
-  module _ (end : ℕ) (new : List ℕ) (n : ℕ) (h : at < length input) (told : end ≡ at + length (to_line_feed (drop at input)))
-      (holds : part new n ≡ keep_all (part old held) (take (end - at) (drop at input))) where
-    front : take (end - at) (drop at input) ≡ to_line_feed (drop at input)
-    front =
-        let k : end - at ≡ length (to_line_feed (drop at input)) = omega arith in
-        rw k (ap (take (length (to_line_feed (drop at input)))) (feed_front (drop at input)) ∙ take-append_seam (to_line_feed (drop at input)) _)
-
-    left : length (drop at input) ≡ length input - at
-    left = length-drop at input
-
-    pub keep_feed : end < length input → Keeps old held new input at (record { held = n; at = end + 1; ended = true })
-    keep_feed g =
-        let l = left in
-        let there : has_line_feed (drop at input) ≡ true = feed_there (drop at input) (omega arith) in
-        let e : length (through_line_feed (drop at input)) ≡ length (to_line_feed (drop at input)) + 1
-        = (ap length (through_feed (drop at input) there) ∙ length-append (to_line_feed (drop at input)) (10 ∷ [])) in
-        record { kept = holds ∙ ap (keep_all (part old held)) front; place = omega arith; ended = sym there }
-
-    pub keep_end : length input ≤ end → Keeps old held new input at (record { held = n; at = end; ended = false })
-    keep_end g =
-        let l = left in
-        let not_there : has_line_feed (drop at input) ≡ false = feed_not_there (drop at input) (omega arith) in
-        let e : length (through_line_feed (drop at input)) ≡ length (to_line_feed (drop at input)) = ap length (no_feed (drop at input) not_there) in
-        record { kept = holds ∙ ap (keep_all (part old held)) front; place = omega arith; ended = sym not_there }
+    pub keep_end : IsFirstByte (is_byte 10) rest None → part new m ≡ keep_all (part old held) rest → Keeps old held new input at (record { held = m; at = at + length rest; ended = false })
+    keep_end none holds =
+        let before : to_line_feed rest ≡ rest = (before_feed rest (length rest) (omega arith) (λ l. absurd (omega arith)) (λ k l. none k (omega arith) l) ∙ take-length rest) in
+        let not_there : has_line_feed rest ≡ false = feed_not_there rest (omega (arith, ap length before)) in
+        let whole : length (through_line_feed rest) ≡ length rest = ap length (no_feed rest not_there ∙ before) in
+        record { kept = rw (← e) (holds ∙ ap (keep_all (part old held)) (sym before)); place = rw (← e) (omega arith); ended = rw (← e) (sym not_there) }

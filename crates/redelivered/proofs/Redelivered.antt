@@ -1,4 +1,6 @@
 -- A delivery leaves the installed generation, and a snapshot at its anchor reads it first.
+use Rattle.std.specs.Prelude.{Option, None, Some}
+use Rattle.head_count.specs.declared.Seq.{Seq}
 use Prim.Native.Nat.{ℕ}
 use mathlib.Core.Path.{◌≡◌, refl, ap, ◌∙◌}
 use Rattle.alike.proofs.Tests.{anchor_same}
@@ -15,24 +17,22 @@ use Rattle.head_step.specs.Steps.{step}
 use Rattle.head_view.specs.Views.{generation_view, view, view_of}
 use Rattle.hash.specs.declared.Hash.{Hash}
 use Rattle.head_anchor.specs.declared.ReadAnchor.{ReadAnchor}
-use Rattle.head_deliver.specs.declared.head_lifecycle.Repeat.{Repeat}
 use Rattle.head_driver.specs.declared.Answer.{Answer}
 use Rattle.head_driver.specs.declared.Driver.{Driver}
 use Rattle.head_ready.specs.declared.Generation.{Generation}
-use Rattle.head_ready.specs.declared.GenerationSlot.{GenerationSlot}
 use Rattle.head_life.specs.declared.HeadLifecycle.{HeadLifecycle}
 use Rattle.head_ready.specs.declared.HeadView.{HeadView}
 use Rattle.head_ready.specs.declared.Source.{Source}
 use Rattle.redelivered.specs.Statements.{ShownAsSettled}
 
 -- whether the delivery repeats the current head or is new, what is installed stays
-installed_kept : (d : Driver) (a : ReadAnchor) (p : Hash) (cold : ℕ) (r : Repeat) → (deliver_as d a p cold r).driver.life.installed ≡ d.life.installed
+installed_kept : (d : Driver) (a : ReadAnchor) (p : Hash) (cold : ℕ) (r : Option Seq) → (deliver_as d a p cold r).driver.life.installed ≡ d.life.installed
 unfolding deliver_as with_life counted delivered
-installed_kept d a p cold Repeat.New = refl
-installed_kept d a p cold (Repeat.Of n) = refl
+installed_kept d a p cold None = refl
+installed_kept d a p cold (Some n) = refl
 
 -- the first that fits is the installed generation
-installed_read : (l : HeadLifecycle) (g : Generation) (spare : ℕ) → l.installed ≡ GenerationSlot.Held g → view l g.anchor spare ≡ view_of Source.Installed g.handle g.readiness
+installed_read : (l : HeadLifecycle) (g : Generation) (spare : ℕ) → l.installed ≡ Some g → view l g.anchor spare ≡ view_of Source.Installed g.handle g.readiness
 unfolding view generation_view
 installed_read l g spare e = rw (e, anchor_same g.anchor)
 

@@ -9,20 +9,20 @@ use lib.Dec.{eqb, ltb}
 use lib.ListN.{length, take, drop, get_or, length-append, length-drop}
 use lib.Seq.{take_all, take-append_seam}
 use borrow.Author.Tests.{eq-eqb, eqb-false, eqb-true, le-leb, ltb-false, ltb-true, ne_eqb}
-use Rattle.hash.specs.Logic.{if}
+use Rattle.std.specs.Prelude.{Option, Some, None, unwrap_or, cond}
 use Rattle.head_count.specs.Counters.{up}
 use Rattle.pending.proofs.LineFeeds.{through_some}
 use Rattle.pending.specs.Kept.{Keeps, through_line_feed}
 use Rattle.script.specs.Feeds.{Finishes, last_prints, lent, reading}
 use Rattle.script.specs.Parts.{Prints, at_front}
-use Rattle.text.specs.Places.{Reads, here}
-use Rattle.text.specs.Rests.{read_number}
+use Rattle.text.specs.Decimals.{number}
+use Rattle.text.specs.Rests.{Rest, word_here, number_got, read_number}
+use Rattle.text.specs.Words.{word}
 use Rattle.text.specs.Writes.{Wrote}
 use Rattle.text.proofs.Writes.{then}
 use Rattle.head_driver.specs.declared.Driver.{Driver}
 use Rattle.pending.specs.declared.Kept.{Kept}
 use Rattle.script.specs.declared.Printed.{Printed}
-use Rattle.text.specs.declared.place.Place.{Place}
 use Rattle.replay.specs.Recordings.{Collects, Counts, TakesAnswer, TakesRecord, after_answer, after_call, at_run, begun, call_compared, compared, fresh, mark_of, number_of, recorded, run_begun, same_front}
 use Rattle.replay.specs.declared.Replay.{Replay}
 use Rattle.replay.specs.declared.Standing.{Standing}
@@ -57,10 +57,14 @@ marked_held [] held k e is = let z : 1 ≤ 0 = omega arith in absurd (not-suc-le
 marked_held (b ∷ l) zero k e is = let z : 1 ≤ 0 = omega arith in absurd (not-suc-le-zero z)
 marked_held (b ∷ l) (suc held) k e is = omega arith
 
-pub number_read : (line : List ℕ) (held value : ℕ) (next : Place) → held ≤ length line
-    → Reads (take held line) value next (read_number (here (take held line) (Place.At 1))) → value ≡ number_of line held
-unfolding number_of
-number_read line held value next h reads = reads.is ∙ rw (le-leb held (length line) h)
+number_value : (m : Option ℕ) (next : Rest) → unwrap_or m 0 ≡ (number_got m next).value
+unfolding number_got
+number_value (Some n) next = refl
+number_value None next = refl
+
+pub number_read : (line w : List ℕ) (held : ℕ) (m : Option ℕ) → held ≤ length line → w ≡ word (drop 1 (take held line)) → m ≡ number w → unwrap_or m 0 ≡ number_of line held
+unfolding number_of read_number word_here
+number_read line w held m h e f = rw (le-leb held (length line) h, ← e, ← f) (number_value m _)
 
 -- ---- the answer that is collected
 
@@ -99,7 +103,7 @@ pub compares : (d : Driver) (s : Standing) (call : List ℕ) (held : ℕ) (want 
     → record { driver = p.driver; standing = after } ≡ call_compared d s call held want old
 unfolding call_compared
 compares d s call held want old new p equal after finishes e is =
-    let same : equal ≡ recorded want s.wanted (if (lent (reading d call held) old) (last_prints (reading d call held)) []) = (e ∙ printed_compared want s.wanted _ _ old new p finishes) in
+    let same : equal ≡ recorded want s.wanted (cond (lent (reading d call held) old) (last_prints (reading d call held)) []) = (e ∙ printed_compared want s.wanted _ _ old new p finishes) in
     rw (is, same, finishes.driver)
 
 -- ---- one line
@@ -158,7 +162,7 @@ up_more : (n : ℕ) → n ≤ up n
 unfolding up
 up_more n = go (ltb n 0xffff_ffff_ffff_ffff)
   where
-    go : (b : Bool) → n ≤ if b (n + 1) n
+    go : (b : Bool) → n ≤ cond b (n + 1) n
     go true = omega arith
     go false = omega arith
 
@@ -166,7 +170,7 @@ up_keeps : (m n : ℕ) → m ≤ n → up m ≤ up n
 unfolding up
 up_keeps m n h = go (ltb m 0xffff_ffff_ffff_ffff) (ltb n 0xffff_ffff_ffff_ffff) refl refl
   where
-    go : (b c : Bool) → ltb m 0xffff_ffff_ffff_ffff ≡ b → ltb n 0xffff_ffff_ffff_ffff ≡ c → if b (m + 1) m ≤ if c (n + 1) n
+    go : (b c : Bool) → ltb m 0xffff_ffff_ffff_ffff ≡ b → ltb n 0xffff_ffff_ffff_ffff ≡ c → cond b (m + 1) m ≤ cond c (n + 1) n
     go true true p q = omega arith
     go true false p q = let x = ltb-true m 0xffff_ffff_ffff_ffff p in let y = ltb-false n 0xffff_ffff_ffff_ffff q in omega arith
     go false true p q = omega arith

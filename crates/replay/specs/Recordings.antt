@@ -1,41 +1,36 @@
 -- A recording's lines: a run begins, an answer's line is collected, a call is made and its answer compared.
-use Rattle.std.specs.Prelude.{ℕ, ◌+◌, ◌-◌, ◌≤◌, ◌<◌, Bool, List, [], ◌∷◌, ◌++◌, ◌≡◌, eqb, leb, length, take, drop}
-use Rattle.hash.specs.Logic.{if, both}
+use Rattle.std.specs.Prelude.{ℕ, ◌+◌, ◌-◌, ◌≤◌, ◌<◌, Bool, List, [], ◌∷◌, ◌++◌, ◌≡◌, eqb, leb, length, take, drop, None, cond, ◌&&◌}
 use Rattle.head_count.specs.Counters.{epoch_of, seq_of, stats_of, up}
 use Rattle.head_driver.specs.New.{free}
 use Rattle.script.specs.Feeds.{last_leaves, last_prints, lent, reading}
-use Rattle.text.specs.Places.{here}
-use Rattle.text.specs.Rests.{read_number}
+use Rattle.text.specs.Rests.{at, read_number}
 use Rattle.text.specs.Same.{same_text}
 use Rattle.text.specs.Writes.{Wrote}
-use Rattle.head_anchor.specs.declared.AnchorSlot.{AnchorSlot}
 use Rattle.head_current.specs.declared.CurrentHead.{CurrentHead}
 use Rattle.head_driver.specs.declared.Driver.{Driver}
-use Rattle.head_ready.specs.declared.GenerationSlot.{GenerationSlot}
 use Rattle.replay.specs.declared.Replay.{Replay}
 use Rattle.replay.specs.declared.Standing.{Standing}
 use Rattle.replay.specs.declared.Tally.{Tally}
-use Rattle.text.specs.declared.place.Place.{Place}
 
 -- one more run; one more answer, and one more difference unless it is the recorded one
 unfoldable pub begun : Tally → Tally
 begun t = record { runs = up t.runs; answers = t.answers; differences = t.differences }
 
 unfoldable pub compared : Tally → Bool → Tally
-compared t equal = record { runs = t.runs; answers = up t.answers; differences = if equal t.differences (up t.differences) }
+compared t equal = record { runs = t.runs; answers = up t.answers; differences = cond equal t.differences (up t.differences) }
 
 -- the comparison: the first bytes of two buffers are there, and are the same text
 unfoldable pub same_front : List ℕ → ℕ → List ℕ → ℕ → Bool
-same_front a m b n = both (leb m (length a)) (both (leb n (length b)) (same_text (take m a) (take n b)))
+same_front a m b n = leb m (length a) && (leb n (length b) && same_text (take m a) (take n b))
 
 -- a new driver but for its nine counters, and seq, which is delivered
 unfoldable pub started : ℕ → Driver
 started n = record {
   life = record {
     current = CurrentHead.Absent;
-    superseded = AnchorSlot.Nothing;
-    installed = GenerationSlot.Nothing;
-    previous = GenerationSlot.Nothing;
+    superseded = None;
+    installed = None;
+    previous = None;
     seq = seq_of n;
     claim_epoch = epoch_of n;
     stats = stats_of n n n n n n n n;
@@ -46,10 +41,10 @@ started n = record {
 -- a line is the first bytes of a buffer: its first byte is the mark, and a number may stand behind it
 unfoldable pub mark_of : List ℕ → ℕ → ℕ
 mark_of [] held = 0
-mark_of (b ∷ line) held = if (eqb held 0) 0 b
+mark_of (b ∷ line) held = cond (eqb held 0) 0 b
 
 unfoldable pub number_of : List ℕ → ℕ → ℕ
-number_of line held = if (leb held (length line)) (read_number (here (take held line) (Place.At 1))).value 0
+number_of line held = cond (leb held (length line)) (read_number (at (drop 1 (take held line)))).value 0
 
 unfoldable pub at_run : Standing → Standing
 at_run s = record { tally = begun s.tally; wanted = 0; held = 0 }
@@ -65,7 +60,7 @@ pub record Collects (wanted : ℕ) (line old new : List ℕ) (r : ℕ) : Type 0 
 
 -- the recorded text is there and is what the call prints
 unfoldable pub recorded : List ℕ → ℕ → List ℕ → Bool
-recorded want wanted text = both (leb wanted (length want)) (same_text (take wanted want) text)
+recorded want wanted text = leb wanted (length want) && same_text (take wanted want) text
 
 unfoldable pub after_answer : Standing → ℕ → Standing
 after_answer s wanted = record { tally = s.tally; wanted = wanted; held = 0 }
@@ -76,8 +71,8 @@ after_call s equal = record { tally = compared s.tally equal; wanted = 0; held =
 -- the call is made, as the last line of an input is answered, and its answer is compared with what was collected
 unfoldable pub call_compared : Driver → Standing → List ℕ → ℕ → List ℕ → List ℕ → Replay
 call_compared d s call held want out = record {
-  driver = if (lent (reading d call held) out) (last_leaves (reading d call held)) d;
-  standing = after_call s (recorded want s.wanted (if (lent (reading d call held) out) (last_prints (reading d call held)) []));
+  driver = cond (lent (reading d call held) out) (last_leaves (reading d call held)) d;
+  standing = after_call s (recorded want s.wanted (cond (lent (reading d call held) out) (last_prints (reading d call held)) []));
 }
 
 -- a line marked `<`, in the first bytes of a buffer, is collected; any other is not

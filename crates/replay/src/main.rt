@@ -7,20 +7,17 @@ ghost use Rattle.std.specs.Prelude.{◌≤◌, ◌≡◌, length};
 ghost use Rattle.head_count.specs.Counters.{stats_of};
 ghost use Rattle.replay.specs.Recordings.{Collects, Counts, TakesAnswer, TakesRecord, after_answer, after_call, at_run, begun, call_compared, compared, fresh, mark_of, number_of, run_begun, same_front, started};
 
-use head_anchor::AnchorSlot;
-use head_attempt::{Waiter, WaiterSlot};
 use head_count::head_lifecycle::raised;
 use head_count::{Epoch, HeadStats, Seq};
-use head_current::CurrentHead;
 use head_driver::Driver;
 use head_life::HeadLifecycle;
-use head_ready::GenerationSlot;
+use head_new::head_lifecycle::new;
 use pending::keep;
 use script::finish;
 use std::fs::File;
 use std::io::{self, Read};
-use text::place::Place;
-use text_decimal::take_decimal;
+use text::word::next_word;
+use text_decimal::read_decimal;
 use text_put::put::put;
 use text_same::same;
 
@@ -32,7 +29,8 @@ struct Tally {
     differences: u64,
 }
 
-// Where a replay stands: what was counted, how many bytes of the next call's answer were collected, and how many bytes of a line are held.
+// Where a replay stands: what was counted, how many bytes of the next call's answer were collected, and how many bytes of a line are held. The bytes
+// themselves are in arrays of `counted`, lent on beside these counts.
 #[derive(Clone, Copy)]
 struct Standing {
     tally: Tally,
@@ -102,24 +100,19 @@ fn all_at(n: u64) -> HeadStats
 }
 
 // A new driver but for its nine counters, which all stand at `n`; seq is delivered.
-#[tactic(auto, unfolding(crate::specs::Recordings::started))]
+#[tactic(auto, unfolding(crate::specs::Recordings::started, head_driver::specs::New::new, head_life::specs::State::no_head))]
 fn started(n: u64) -> Driver
     ensures { result ≡ started n }
 {
-    let slot = WaiterSlot {
-        waiter: Waiter::Free,
-    };
+    let new = new();
     Driver {
         life: HeadLifecycle {
-            current: CurrentHead::Absent,
-            superseded: AnchorSlot::Nothing,
-            installed: GenerationSlot::Nothing,
-            previous: GenerationSlot::Nothing,
             seq: Seq(n),
             claim_epoch: Epoch(n),
             stats: all_at(n),
+            ..new.life
         },
-        waiters: [slot; 16],
+        ..new
     }
 }
 
@@ -177,8 +170,7 @@ fn number(line: &[u8], held: usize) -> u64
     if held > line.len() {
         return 0;
     }
-    let taken = take_decimal(&line[..held], Place::At(1));
-    taken.value
+    read_decimal(next_word(&line[..held], 1)).unwrap_or(0)
 }
 
 // After a call whose answer was compared.
@@ -283,6 +275,7 @@ fn lines_taken(
 {
     let mut now = start;
     let mut at = 0;
+    // Not a `for`: a turn takes a line, whatever its length.
     while at < input.len() {
         let mut s = now.standing;
         let kept = keep(pending, s.held, input, at);

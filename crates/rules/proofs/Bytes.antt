@@ -1,4 +1,5 @@
 -- The line of every call is made of bytes, and none of them is a line feed.
+use Rattle.std.specs.Prelude.{Option, None, Some, ◌&&◌}
 use Prim.Native.Nat.{ℕ, zero, suc, ◌+◌, ◌<◌, ◌≤◌, ◌/◌, ◌%◌}
 use native.Mathlib.Omega.{arith}
 use mathlib.Core.Bool.{Bool, true}
@@ -12,7 +13,6 @@ use Rattle.value_text.specs.Texts.{anchor_text, block_hash_text, skip_text, slot
 use Rattle.value_text.specs.Values.{hash_text, value_text}
 use Rattle.value_text.specs.Words.{word_text}
 use Rattle.value_text.specs.declared.page.Page.{Page}
-use Rattle.hash.specs.Logic.{both}
 use Rattle.hash_text.specs.Hex.{glyph, hex, hex_on, hex_text}
 use Rattle.hash_text.specs.LineHashes.{line_hash_text}
 use Rattle.script_call.specs.Texts.{call_text}
@@ -20,8 +20,6 @@ use Rattle.text.specs.Ascii.{ascii}
 use Rattle.text.specs.Decimals.{decimal, decimal_on}
 use Rattle.hash.specs.declared.Hash.{Hash}
 use Rattle.head_anchor.specs.declared.BalSkip.{BalSkip}
-use Rattle.head_anchor.specs.declared.AnchorSlot.{AnchorSlot}
-use Rattle.head_anchor.specs.declared.BlockHash.{BlockHash}
 use Rattle.head_anchor.specs.declared.ReadAnchor.{ReadAnchor}
 use Rattle.head_call.specs.declared.Call.{Call}
 use Rattle.rules.specs.Runs.{Bytes, OneLine}
@@ -54,14 +52,14 @@ plain_then (b ∷ s) t f g = (f.0, plain_then s t f.1 g)
 -- a quoted text, by a test
 unfoldable plain_test : List ℕ → Bool
 plain_test [] = true
-plain_test (b ∷ s) = both (both (leb 32 b) (ltb b 128)) (plain_test s)
+plain_test (b ∷ s) = (leb 32 b && ltb b 128) && plain_test s
 
 quoted : (s : List ℕ) → plain_test s ≡ true → AllPlain s
 unfolding plain_test AllPlain
 quoted [] e = tt
 quoted (b ∷ s) e =
-    let here = both_left (both (leb 32 b) (ltb b 128)) (plain_test s) e in
-    ((leb-true 32 b (both_left (leb 32 b) (ltb b 128) here), ltb-true b 128 (both_right (leb 32 b) (ltb b 128) here)), quoted s (both_right (both (leb 32 b) (ltb b 128)) (plain_test s) e))
+    let here = both_left (leb 32 b && ltb b 128) (plain_test s) e in
+    ((leb-true 32 b (both_left (leb 32 b) (ltb b 128) here), ltb-true b 128 (both_right (leb 32 b) (ltb b 128) here)), quoted s (both_right (leb 32 b && ltb b 128) (plain_test s) e))
 
 decimal_on_plain : (k n : ℕ) (s : List ℕ) → AllPlain s → AllPlain (decimal_on k n s)
 unfolding decimal_on AllPlain
@@ -94,10 +92,10 @@ hash_plain h = plain_then _ _ (hex_plain h.w0) (plain_then _ _ (hex_plain h.w1) 
 
 -- ---- values
 
-block_hash_plain : (h : BlockHash) → AllPlain (block_hash_text Page.Line h)
+block_hash_plain : (h : Option Hash) → AllPlain (block_hash_text Page.Line h)
 unfolding block_hash_text value_text word_text hash_text block_hash_value plain_test
-block_hash_plain BlockHash.Unknown = quoted (ascii "none") refl
-block_hash_plain (BlockHash.Known h) = hash_plain h
+block_hash_plain None = quoted (ascii "none") refl
+block_hash_plain (Some h) = hash_plain h
 
 -- a text and then a quoted text, or the other way round
 ends : (s : List ℕ) → AllPlain s → AllPlain (s ++ ascii ")")
@@ -112,10 +110,10 @@ anchor_plain : (a : ReadAnchor) → AllPlain (anchor_text Page.Line a)
 unfolding anchor_text value_text anchor_value block_hash_text plain_test
 anchor_plain a = plain_then (ascii "(") _ (quoted (ascii "(") refl) (plain_then _ _ (decimal_plain a.number) (spaced _ (ends _ (block_hash_plain a.hash))))
 
-slot_plain : (s : AnchorSlot) → AllPlain (slot_text Page.Line s)
+slot_plain : (s : Option ReadAnchor) → AllPlain (slot_text Page.Line s)
 unfolding slot_text value_text word_text slot_value anchor_text plain_test
-slot_plain AnchorSlot.Nothing = quoted (ascii "none") refl
-slot_plain (AnchorSlot.At a) = anchor_plain a
+slot_plain None = quoted (ascii "none") refl
+slot_plain (Some a) = anchor_plain a
 
 skip_plain : (x : BalSkip) → AllPlain (skip_text x)
 unfolding skip_text value_text word_text skip_value plain_test

@@ -1,4 +1,7 @@
 -- The tests of the state machine decide document 01's conditions.
+use Rattle.std.specs.Prelude.{is_some}
+use Rattle.std.specs.Prelude.{Option, None, Some, cond}
+use Rattle.head_ready.specs.declared.Generation.{Generation}
 use Prim.Native.Nat.{ℕ, ◌<◌}
 use native.Mathlib.Omega.{arith}
 use mathlib.Core.Bool.{Bool, true, false, not}
@@ -7,30 +10,25 @@ use mathlib.Core.Path.{◌≡◌, refl, ap, sym}
 use lib.Dec.{eqb, ltb}
 use borrow.Author.Tests.{eqb-true, ltb-false, ltb-true}
 use Rattle.alike.proofs.Tests.{anchor_same, both_left, both_right, eqb_same, same_anchor_lem, same_holds, holds_same, true_false, at_same, nothing_at}
-use Rattle.hash.specs.Logic.{if}
 use Rattle.head_anchor.specs.Anchors.{holds, same_anchor}
-use Rattle.head_anchor.specs.Lists.{as_prepared, has_hash, is_no_hash}
+use Rattle.head_anchor.specs.Lists.{as_prepared, is_no_hash}
 use Rattle.head_count.specs.Counters.{same_seq}
 use Rattle.head_current.specs.Heads.{ticket_of}
 use Rattle.head_ready.specs.Generations.{slot_anchor}
 use Rattle.hash.specs.declared.Hash.{Hash}
 use Rattle.head_anchor.specs.declared.BalSkip.{BalSkip}
 use Rattle.head_anchor.specs.declared.PreparedBal.{PreparedBal}
-use Rattle.head_anchor.specs.declared.AnchorSlot.{AnchorSlot}
-use Rattle.head_anchor.specs.declared.BlockHash.{BlockHash}
 use Rattle.head_anchor.specs.declared.ReadAnchor.{ReadAnchor}
-use Rattle.head_current.specs.declared.DeliverySlot.{DeliverySlot}
 use Rattle.head_current.specs.declared.HeadDelivery.{HeadDelivery}
 use Rattle.head_current.specs.declared.HeadTicket.{HeadTicket}
-use Rattle.head_ready.specs.declared.GenerationSlot.{GenerationSlot}
 use Rattle.rules.specs.Refusals.{HeadInstalled}
 
 -- ---- the list
 
-abbrev Agree : BalSkip → BlockHash → Type 0
-Agree x h = (x ≡ BalSkip.NoHash) ↔ (h ≡ BlockHash.Unknown)
+abbrev Agree : BalSkip → Option Hash → Type 0
+Agree x h = (x ≡ BalSkip.NoHash) ↔ (h ≡ None)
 
-known_unknown : {X : Type 0} {h : Hash} → BlockHash.Known h ≡ BlockHash.Unknown → X
+known_unknown : {X : Type 0} {h : Hash} → Some h ≡ None → X
 known_unknown p = let z : ◌≡◌ {A = ℕ} 0 1 = cc in absurd (omega arith)
 
 -- a skip that is not `no-hash`
@@ -46,33 +44,33 @@ rpc_other n p = let z : ◌≡◌ {A = ℕ} 0 1 = cc in absurd (omega arith)
 decode_other : (n : ℕ) → Other (BalSkip.Decode n)
 decode_other n p = let z : ◌≡◌ {A = ℕ} 0 1 = cc in absurd (omega arith)
 
-abbrev agrees : BalSkip → BlockHash → Bool
-agrees x h = if (is_no_hash x) (not (has_hash h)) (has_hash h)
+abbrev agrees : BalSkip → Option Hash → Bool
+agrees x h = cond (is_no_hash x) (not (is_some h)) (is_some h)
 
-other_agree : (x : BalSkip) (h : Hash) → Other x → Agree x (BlockHash.Known h)
+other_agree : (x : BalSkip) (h : Hash) → Other x → Agree x (Some h)
 other_agree x h n = (λ e. absurd (n e), λ e. known_unknown e)
 
-agree : (x : BalSkip) (h : BlockHash) → agrees x h ≡ true → Agree x h
-unfolding is_no_hash has_hash
-agree BalSkip.Nothing BlockHash.Unknown e = true_false e refl
-agree BalSkip.Nothing (BlockHash.Known h) e = other_agree BalSkip.Nothing h nothing_other
-agree BalSkip.NoHash BlockHash.Unknown e = (λ p. refl, λ p. refl)
-agree BalSkip.NoHash (BlockHash.Known h) e = true_false e refl
-agree (BalSkip.Rpc n) BlockHash.Unknown e = true_false e refl
-agree (BalSkip.Rpc n) (BlockHash.Known h) e = other_agree (BalSkip.Rpc n) h (rpc_other n)
-agree (BalSkip.Decode n) BlockHash.Unknown e = true_false e refl
-agree (BalSkip.Decode n) (BlockHash.Known h) e = other_agree (BalSkip.Decode n) h (decode_other n)
+agree : (x : BalSkip) (h : Option Hash) → agrees x h ≡ true → Agree x h
+unfolding is_no_hash
+agree BalSkip.Nothing None e = true_false e refl
+agree BalSkip.Nothing (Some h) e = other_agree BalSkip.Nothing h nothing_other
+agree BalSkip.NoHash None e = (λ p. refl, λ p. refl)
+agree BalSkip.NoHash (Some h) e = true_false e refl
+agree (BalSkip.Rpc n) None e = true_false e refl
+agree (BalSkip.Rpc n) (Some h) e = other_agree (BalSkip.Rpc n) h (rpc_other n)
+agree (BalSkip.Decode n) None e = true_false e refl
+agree (BalSkip.Decode n) (Some h) e = other_agree (BalSkip.Decode n) h (decode_other n)
 
-disagree : (x : BalSkip) (h : BlockHash) → agrees x h ≡ false → ¬ Agree x h
-unfolding is_no_hash has_hash
-disagree BalSkip.Nothing BlockHash.Unknown e a = nothing_other (a.1 refl)
-disagree BalSkip.Nothing (BlockHash.Known h) e a = true_false refl e
-disagree BalSkip.NoHash BlockHash.Unknown e a = true_false refl e
-disagree BalSkip.NoHash (BlockHash.Known h) e a = known_unknown (a.0 refl)
-disagree (BalSkip.Rpc n) BlockHash.Unknown e a = rpc_other n (a.1 refl)
-disagree (BalSkip.Rpc n) (BlockHash.Known h) e a = true_false refl e
-disagree (BalSkip.Decode n) BlockHash.Unknown e a = decode_other n (a.1 refl)
-disagree (BalSkip.Decode n) (BlockHash.Known h) e a = true_false refl e
+disagree : (x : BalSkip) (h : Option Hash) → agrees x h ≡ false → ¬ Agree x h
+unfolding is_no_hash
+disagree BalSkip.Nothing None e a = nothing_other (a.1 refl)
+disagree BalSkip.Nothing (Some h) e a = true_false refl e
+disagree BalSkip.NoHash None e a = true_false refl e
+disagree BalSkip.NoHash (Some h) e a = known_unknown (a.0 refl)
+disagree (BalSkip.Rpc n) None e a = rpc_other n (a.1 refl)
+disagree (BalSkip.Rpc n) (Some h) e a = true_false refl e
+disagree (BalSkip.Decode n) None e a = decode_other n (a.1 refl)
+disagree (BalSkip.Decode n) (Some h) e a = true_false refl e
 
 pub list_agrees : (list : PreparedBal) → as_prepared list ≡ true → ¬ ¬ Agree list.skip list.anchor.hash
 unfolding as_prepared
@@ -112,12 +110,12 @@ ticket_is_not held ticket e t = true_false {b = ticket_of held ticket} (rw (anch
 pub anchor_is_not : (a b : ReadAnchor) → same_anchor a b ≡ false → ¬ (a ≡ b)
 anchor_is_not a b e p = true_false (anchor_same a b p) e
 
-pub installed_is : (g : GenerationSlot) (held : HeadDelivery) → holds (slot_anchor g) held.anchor ≡ true → HeadInstalled g (DeliverySlot.Held held)
+pub installed_is : (g : Option Generation) (held : HeadDelivery) → holds (slot_anchor g) held.anchor ≡ true → HeadInstalled g (Some held)
 unfolding slot_anchor
-installed_is GenerationSlot.Nothing held e = nothing_at (holds_same AnchorSlot.Nothing held.anchor e)
-installed_is (GenerationSlot.Held g) held e = at_same (holds_same (AnchorSlot.At g.anchor) held.anchor e)
+installed_is None held e = nothing_at (holds_same None held.anchor e)
+installed_is (Some g) held e = at_same (holds_same (Some g.anchor) held.anchor e)
 
-pub installed_is_not : (g : GenerationSlot) (held : HeadDelivery) → holds (slot_anchor g) held.anchor ≡ false → ¬ HeadInstalled g (DeliverySlot.Held held)
+pub installed_is_not : (g : Option Generation) (held : HeadDelivery) → holds (slot_anchor g) held.anchor ≡ false → ¬ HeadInstalled g (Some held)
 unfolding slot_anchor
-installed_is_not GenerationSlot.Nothing held e p = p
-installed_is_not (GenerationSlot.Held g) held e p = true_false (same_holds (AnchorSlot.At g.anchor) held.anchor (ap AnchorSlot.At p)) e
+installed_is_not None held e p = p
+installed_is_not (Some g) held e p = true_false (same_holds (Some g.anchor) held.anchor (ap Some p)) e

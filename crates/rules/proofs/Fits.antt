@@ -1,4 +1,7 @@
 -- Every number that a call is answered with is below 2^64, and so is every word of its hashes, where the driver's and the call's own are.
+use Rattle.std.specs.Prelude.{Option, None, Some, Result, Ok, Err}
+use Rattle.head_ready.specs.declared.Generation.{Generation}
+use Rattle.head_ready.specs.declared.HeadOutcome.{HeadOutcome}
 use Prim.Native.Nat.{ℕ}
 use lib.Dec.{ltb}
 use Rattle.alike.proofs.KeptRanges.{outcome_fits}
@@ -37,20 +40,16 @@ use Rattle.head_anchor.specs.Ranges.{AnchorFits, SkipFits, SlotFits}
 use Rattle.head_current.specs.Ranges.{DeliveryFits, HeadFits, ReportFits, UnsettledFits}
 use Rattle.hash.specs.declared.Hash.{Hash}
 use Rattle.head_anchor.specs.declared.BalSkip.{BalSkip}
-use Rattle.head_anchor.specs.declared.AnchorSlot.{AnchorSlot}
 use Rattle.head_anchor.specs.declared.ReadAnchor.{ReadAnchor}
 use Rattle.head_count.specs.declared.Epoch.{Epoch}
 use Rattle.head_attempt.specs.declared.Waiter.{Waiter}
 use Rattle.head_current.specs.declared.CurrentHead.{CurrentHead}
-use Rattle.head_current.specs.declared.DeliverySlot.{DeliverySlot}
 use Rattle.head_current.specs.declared.HeadDelivery.{HeadDelivery}
 use Rattle.head_current.specs.declared.HeadTicket.{HeadTicket}
 use Rattle.head_current.specs.declared.UnsettledHead.{UnsettledHead}
 use Rattle.head_driver.specs.declared.Driver.{Driver}
 use Rattle.head_driver.specs.declared.Reply.{Reply}
-use Rattle.head_ready.specs.declared.GenerationSlot.{GenerationSlot}
 use Rattle.head_plan.specs.declared.head_lifecycle.ApplyPlan.{ApplyPlan}
-use Rattle.head_claim.specs.declared.head_lifecycle.ClaimStart.{ClaimStart}
 use Rattle.head_ready.specs.declared.HeadCold.{HeadCold}
 use Rattle.head_life.specs.declared.HeadLifecycle.{HeadLifecycle}
 use Rattle.head_ready.specs.declared.HeadReadiness.{HeadReadiness}
@@ -63,9 +62,9 @@ Replied r = AnswerFits r.answer
 
 -- ---- the head
 
-abbrev HeldFits : DeliverySlot → Type 0
-HeldFits DeliverySlot.Nothing = Unit {0}
-HeldFits (DeliverySlot.Held held) = DeliveryFits held
+abbrev HeldFits : Option HeadDelivery → Type 0
+HeldFits None = Unit {0}
+HeldFits (Some held) = DeliveryFits held
 
 delivery_fits : (c : CurrentHead) → HeadFits c → HeldFits (delivery c)
 unfolding delivery
@@ -74,15 +73,15 @@ delivery_fits (CurrentHead.Unclaimed u) f = f.delivery
 delivery_fits (CurrentHead.Preparing u) f = f.delivery
 delivery_fits (CurrentHead.Settled s) f = f.delivery
 
-current_fits : (s : DeliverySlot) → HeldFits s → SlotFits (anchor_of s)
+current_fits : (s : Option HeadDelivery) → HeldFits s → SlotFits (anchor_of s)
 unfolding anchor_of
-current_fits DeliverySlot.Nothing f = tt
-current_fits (DeliverySlot.Held held) f = f.anchor
+current_fits None f = tt
+current_fits (Some held) f = f.anchor
 
-slot_fits : (g : GenerationSlot) → GenerationSlotFits g → SlotFits (slot_anchor g)
+slot_fits : (g : Option Generation) → GenerationSlotFits g → SlotFits (slot_anchor g)
 unfolding slot_anchor
-slot_fits GenerationSlot.Nothing f = tt
-slot_fits (GenerationSlot.Held g) f = f.anchor
+slot_fits None f = tt
+slot_fits (Some g) f = f.anchor
 
 current_report_fits : (c : CurrentHead) → HeadFits c → ReportFits (current_report c)
 unfolding current_report
@@ -97,35 +96,35 @@ seq_fits : (d : Driver) → A.DriverFits d → Fits (next_seq d.life.seq).0
 unfolding next_seq
 seq_fits d f = up_fits d.life.seq.0 f.life.seq
 
-delivered_fits : (d : Driver) (s : DeliverySlot) (a : ReadAnchor) (p : Hash) (cold : ℕ) → A.DriverFits d → HeldFits s → Replied (deliver_as d a p cold (repeats s a p))
+delivered_fits : (d : Driver) (s : Option HeadDelivery) (a : ReadAnchor) (p : Hash) (cold : ℕ) → A.DriverFits d → HeldFits s → Replied (deliver_as d a p cold (repeats s a p))
 unfolding deliver_as repeats repeat_of
-delivered_fits d DeliverySlot.Nothing a p cold f g = seq_fits d f
-delivered_fits d (DeliverySlot.Held held) a p cold f g = by_if (λ r. Replied (deliver_as d a p cold r)) (same_delivery held a p) _ _ (λ e. g.seq) (λ e. seq_fits d f)
+delivered_fits d None a p cold f g = seq_fits d f
+delivered_fits d (Some held) a p cold f g = by_if (λ r. Replied (deliver_as d a p cold r)) (same_delivery held a p) _ _ (λ e. g.seq) (λ e. seq_fits d f)
 
 -- ---- claim
 
-abbrev StartFits : ClaimStart → Type 0
-StartFits (ClaimStart.Claimed e) = Fits e.0
-StartFits (ClaimStart.Refused o) = HeadOutcomeFits o
+abbrev StartFits : Result Epoch HeadOutcome → Type 0
+StartFits (Ok e) = Fits e.0
+StartFits (Err o) = HeadOutcomeFits o
 
-gate_fits : (i : AnchorSlot) (held : HeadDelivery) (ticket : HeadTicket) (next : ClaimStart) → DeliveryFits held → StartFits next → StartFits (claim_gate i held ticket next)
+gate_fits : (i : Option ReadAnchor) (held : HeadDelivery) (ticket : HeadTicket) (next : Result Epoch HeadOutcome) → DeliveryFits held → StartFits next → StartFits (claim_gate i held ticket next)
 unfolding claim_gate
 gate_fits i held ticket next f g =
     by_if StartFits (ticket_of held ticket) _ _
     (λ e. by_if StartFits (holds i ticket.anchor) _ _ (λ e. tt) (λ e. g))
     (λ e. f.anchor)
 
-start_fits : (i : AnchorSlot) (e : Epoch) (c : CurrentHead) (ticket : HeadTicket) → Fits e.0 → HeadFits c → AnchorFits ticket.anchor → StartFits (claim_start_at i e c ticket)
+start_fits : (i : Option ReadAnchor) (e : Epoch) (c : CurrentHead) (ticket : HeadTicket) → Fits e.0 → HeadFits c → AnchorFits ticket.anchor → StartFits (claim_start_at i e c ticket)
 unfolding next_epoch
 start_fits i e CurrentHead.Absent ticket g f t = t
 start_fits i e (CurrentHead.Unclaimed u) ticket g f t = gate_fits i u.delivery ticket _ f.delivery (up_fits e.0 g)
 start_fits i e (CurrentHead.Preparing u) ticket g f t = gate_fits i u.delivery ticket _ f.delivery tt
 start_fits i e (CurrentHead.Settled s) ticket g f t = gate_fits i s.delivery ticket _ f.delivery tt
 
-claimed_fits : (d : Driver) (s : ClaimStart) → StartFits s → Replied (claim_as d s)
+claimed_fits : (d : Driver) (s : Result Epoch HeadOutcome) → StartFits s → Replied (claim_as d s)
 unfolding claim_as
-claimed_fits d (ClaimStart.Claimed e) f = f
-claimed_fits d (ClaimStart.Refused o) f = f
+claimed_fits d (Ok e) f = f
+claimed_fits d (Err o) f = f
 
 -- ---- apply
 
@@ -134,10 +133,10 @@ PlanFits (ApplyPlan.Refused o) = HeadOutcomeFits o
 PlanFits (ApplyPlan.Discarded o) = HeadOutcomeFits o
 PlanFits (ApplyPlan.Admitted held) = Unit {0}
 
-plan_fits : (i : AnchorSlot) (s : DeliverySlot) (ticket : HeadTicket) (list : ReadAnchor) → HeldFits s → AnchorFits ticket.anchor → AnchorFits list → PlanFits (plan_at i s ticket list)
+plan_fits : (i : Option ReadAnchor) (s : Option HeadDelivery) (ticket : HeadTicket) (list : ReadAnchor) → HeldFits s → AnchorFits ticket.anchor → AnchorFits list → PlanFits (plan_at i s ticket list)
 unfolding plan_held
-plan_fits i DeliverySlot.Nothing ticket list f t l = t
-plan_fits i (DeliverySlot.Held held) ticket list f t l =
+plan_fits i None ticket list f t l = t
+plan_fits i (Some held) ticket list f t l =
     let h = f.anchor in
     by_if PlanFits (ticket_of held ticket) _ _
     (λ e. by_if PlanFits (same_anchor list held.anchor) _ _ (λ e. by_if PlanFits (holds i held.anchor) _ _ (λ e. tt) (λ e. tt)) (λ e. (l, h)))
@@ -154,14 +153,14 @@ applied_fits d skip handle carried report (ApplyPlan.Admitted held) f g h = outc
 abbrev ViewFits : HeadView → Type 0
 ViewFits v = Fits v.handle × ReadinessFits v.readiness
 
-spare_fits : (s : AnchorSlot) (a : ReadAnchor) (spare : ℕ) → Fits spare → ViewFits (spare_view s a spare)
+spare_fits : (s : Option ReadAnchor) (a : ReadAnchor) (spare : ℕ) → Fits spare → ViewFits (spare_view s a spare)
 unfolding spare_view spare_reason
 spare_fits s a spare f = (f, by_if ColdFits (holds s a) _ _ (λ e. tt) (λ e. tt))
 
-generation_fits : (source : Source) (g : GenerationSlot) (a : ReadAnchor) (other : HeadView) → GenerationSlotFits g → ViewFits other → ViewFits (generation_view source g a other)
+generation_fits : (source : Source) (g : Option Generation) (a : ReadAnchor) (other : HeadView) → GenerationSlotFits g → ViewFits other → ViewFits (generation_view source g a other)
 unfolding generation_view
-generation_fits source GenerationSlot.Nothing a other f h = h
-generation_fits source (GenerationSlot.Held g) a other f h = by_if ViewFits (same_anchor g.anchor a) _ _ (λ e. (f.handle, f.readiness)) (λ e. h)
+generation_fits source None a other f h = h
+generation_fits source (Some g) a other f h = by_if ViewFits (same_anchor g.anchor a) _ _ (λ e. (f.handle, f.readiness)) (λ e. h)
 
 provisional_fits : (u : UnsettledHead) (a : ReadAnchor) (other : HeadView) → UnsettledFits u → ViewFits other → ViewFits (provisional_view u a other)
 unfolding provisional_view

@@ -6,9 +6,9 @@ use mathlib.Core.Path.{◌≡◌, refl, ap, sym, ◌∙◌}
 use lib.Dec.{eqb}
 use lib.ListN.{length, drop}
 use lib.Seq.{drop-append_seam}
+use Rattle.std.specs.Prelude.{Some, cond}
 use Rattle.alike.proofs.Kept.{holds_of_new}
 use Rattle.alike.specs.Invariant.{Invariant}
-use Rattle.hash.specs.Logic.{if}
 use Rattle.head_driver.specs.New.{new}
 use Rattle.script.specs.Scripts.{answered, lines, lines_after, script}
 use Rattle.script_call.specs.Calls.{call}
@@ -32,8 +32,8 @@ lines_ended [] y line = refl
 lines_ended (b ∷ x) y line = go (eqb b 10) (lines_ended x y)
   where
     go : (t : Bool) → ((line : List ℕ) → lines_after line ((x ++ (10 ∷ [])) ++ y) ≡ lines_after line (x ++ (10 ∷ [])) ++ lines_after [] y)
-        → if t (line ∷ lines_after [] ((x ++ (10 ∷ [])) ++ y)) (lines_after (line ++ (b ∷ [])) ((x ++ (10 ∷ [])) ++ y))
-        ≡ if t (line ∷ lines_after [] (x ++ (10 ∷ []))) (lines_after (line ++ (b ∷ [])) (x ++ (10 ∷ []))) ++ lines_after [] y
+        → cond t (line ∷ lines_after [] ((x ++ (10 ∷ [])) ++ y)) (lines_after (line ++ (b ∷ [])) ((x ++ (10 ∷ [])) ++ y))
+        ≡ cond t (line ∷ lines_after [] (x ++ (10 ∷ []))) (lines_after (line ++ (b ∷ [])) (x ++ (10 ∷ []))) ++ lines_after [] y
     go true more = ap (λ (r : List (List ℕ)). line ∷ r) (more [])
     go false more = more (line ++ (b ∷ []))
 
@@ -53,7 +53,7 @@ sheet_line : lines (ascii "(sheet)\n") ≡ ascii "(sheet)" ∷ []
 unfolding lines lines_after
 sheet_line = refl
 
-sheet_is : call (ascii "(sheet)") ≡ LineCall.Sheet
+sheet_is : call (ascii "(sheet)") ≡ Some LineCall.Sheet
 unfolding sheet_call_text
 sheet_is = sheet_back
 

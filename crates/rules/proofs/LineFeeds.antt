@@ -1,9 +1,11 @@
 -- What `(sheet)` writes into 4,096 bytes or more, up to its last line feed, is the sheet's text, which ends with a line feed.
+use Rattle.head_ready.specs.declared.Generation.{Generation}
 use Prim.Native.Nat.{ℕ, suc, ◌≤◌}
 use mathlib.Core.List.{List, [], ◌∷◌, ◌++◌, append_assoc, append-nil}
 use mathlib.Core.Path.{◌≡◌, refl, ap, sym, ◌∙◌}
 use lib.ListN.{drop, length, take}
 use borrow.Author.Tests.{le-ltb}
+use Rattle.std.specs.Prelude.{Some, Option}
 use Rattle.alike.specs.Canon.{canon}
 use Rattle.driver.specs.Turns.{sheet_after, sheet_answer, turn_of}
 use Rattle.head_attempt.specs.declared.Waiter.{Waiter}
@@ -18,7 +20,6 @@ use Rattle.text.specs.Ascii.{ascii}
 use Rattle.text.specs.Decimals.{decimal}
 use Rattle.head_anchor.specs.declared.ReadAnchor.{ReadAnchor}
 use Rattle.head_driver.specs.declared.Driver.{Driver}
-use Rattle.head_ready.specs.declared.GenerationSlot.{GenerationSlot}
 use Rattle.head_life.specs.declared.HeadLifecycle.{HeadLifecycle}
 use Rattle.script_call.specs.declared.LineCall.{LineCall}
 use Rattle.value_text.specs.declared.page.Page.{Page}
@@ -53,7 +54,7 @@ whole s f = rw f.is (to_feed f.before)
 
 -- ---- the sheet ends with a line feed
 
-previous_fed : (g : GenerationSlot) → Fed (previous_line g)
+previous_fed : (g : Option Generation) → Fed (previous_line g)
 unfolding previous_line
 previous_fed g = fed_after (ascii "(previous ") (generation_text g ++ ascii ")\n") (fed_after (generation_text g) (ascii ")\n") (fed (ascii ")")))
 
@@ -90,11 +91,11 @@ taken : (s t : List ℕ) → take (length s) (s ++ t) ≡ s
 taken [] t = refl
 taken (b ∷ s) t = ap (λ (u : List ℕ). b ∷ u) (taken s t)
 
-wrote : (d : Driver) (buffer : List ℕ) → 4096 ≤ length buffer → wrote_of (turn_of d LineCall.Sheet buffer).answer (sheet_after d LineCall.Sheet buffer) ≡ sheet_text d
+wrote : (d : Driver) (buffer : List ℕ) → 4096 ≤ length buffer → wrote_of (turn_of d (Some LineCall.Sheet) buffer).answer (sheet_after d (Some LineCall.Sheet) buffer) ≡ sheet_text d
 unfolding turn_of sheet_after sheet_answer written buffer_after wrote_of
 wrote d buffer h = rw (le-ltb (length buffer) 4096 h) (taken (sheet_text d) (drop (length (sheet_text d)) buffer))
 
-pub sheet_wrote : (d : Driver) (buffer : List ℕ) → 4096 ≤ length buffer → to_last_line_feed (wrote_of (turn_of d LineCall.Sheet buffer).answer (sheet_after d LineCall.Sheet buffer)) ≡ sheet_text d
+pub sheet_wrote : (d : Driver) (buffer : List ℕ) → 4096 ≤ length buffer → to_last_line_feed (wrote_of (turn_of d (Some LineCall.Sheet) buffer).answer (sheet_after d (Some LineCall.Sheet) buffer)) ≡ sheet_text d
 sheet_wrote d buffer h = rw (wrote d buffer h) (whole (sheet_text d) (sheet_fed d))
 
 pub sheet_is_text : SheetIsText

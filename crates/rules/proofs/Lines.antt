@@ -3,6 +3,7 @@ use Prim.Native.Nat.{ℕ}
 use native.Mathlib.Omega.{arith}
 use mathlib.Core.List.{List, [], ◌∷◌}
 use mathlib.Core.Path.{◌≡◌, refl, ap, ap₂, sym, ◌∙◌}
+use Rattle.std.specs.Prelude.{Option, Some, None}
 use Rattle.head_call.specs.Ranges.{Writable}
 use Rattle.alike.proofs.Kept.{kept}
 use Rattle.alike.specs.Invariant.{Invariant}
@@ -29,11 +30,11 @@ use Rattle.rules.proofs.Fits.{answer_fits}
 
 -- ---- the invariant
 
-turn_keeps : (d : Driver) (q : LineCall) (buffer : List ℕ) → LineWritable q → Invariant d → Invariant (turn_of d q buffer).driver
+turn_keeps : (d : Driver) (q : Option LineCall) (buffer : List ℕ) → LineWritable q → Invariant d → Invariant (turn_of d q buffer).driver
 unfolding turn_of made
-turn_keeps d LineCall.NoCall buffer r v = v
-turn_keeps d LineCall.Sheet buffer r v = v
-turn_keeps d (LineCall.Make c) buffer r v = kept d c v r
+turn_keeps d None buffer r v = v
+turn_keeps d (Some LineCall.Sheet) buffer r v = v
+turn_keeps d (Some (LineCall.Make c)) buffer r v = kept d c v r
 
 pub lines_keep : LinesKeep
 unfolding after
@@ -53,29 +54,29 @@ rest (x ∷ xs) = xs
 -- ---- from calls to lines
 
 -- what is asked for is no sheet
-abbrev NoSheet : LineCall → Type 0
-NoSheet LineCall.NoCall = Unit {0}
-NoSheet LineCall.Sheet = ⊥
-NoSheet (LineCall.Make c) = Unit {0}
+abbrev NoSheet : Option LineCall → Type 0
+NoSheet None = Unit {0}
+NoSheet (Some LineCall.Sheet) = ⊥
+NoSheet (Some (LineCall.Make c)) = Unit {0}
 
 no_sheet : (l : List ℕ) → ¬ (l ≡ sheet_call_text) → NoSheet (call l)
 no_sheet l n = go (call l) refl
   where
-    go : (q : LineCall) → call l ≡ q → NoSheet q
-    go LineCall.NoCall e = tt
-    go LineCall.Sheet e = n (sheet_only l e)
-    go (LineCall.Make c) e = tt
+    go : (q : Option LineCall) → call l ≡ q → NoSheet q
+    go None e = tt
+    go (Some LineCall.Sheet) e = n (sheet_only l e)
+    go (Some (LineCall.Make c)) e = tt
 
 -- the answer's line is the same, and so is whatever follows
-record Alike (d₁ d₂ : Driver) (q : LineCall) (b : List ℕ) : Type 0 where
+record Alike (d₁ d₂ : Driver) (q : Option LineCall) (b : List ℕ) : Type 0 where
   answer : line_text (turn_of d₁ q b).answer ≡ line_text (turn_of d₂ q b).answer
   later : C.SameAnswers (turn_of d₁ q b).driver (turn_of d₂ q b).driver
 
-turn_alike : (d₁ d₂ : Driver) → C.SameAnswers d₁ d₂ → (q : LineCall) (b : List ℕ) → LineWritable q → NoSheet q → Alike d₁ d₂ q b
+turn_alike : (d₁ d₂ : Driver) → C.SameAnswers d₁ d₂ → (q : Option LineCall) (b : List ℕ) → LineWritable q → NoSheet q → Alike d₁ d₂ q b
 unfolding turn_of made line_text R.answers
-turn_alike d₁ d₂ s LineCall.NoCall b r n = record { answer = refl; later = s }
-turn_alike d₁ d₂ s LineCall.Sheet b r n = absurd n
-turn_alike d₁ d₂ s (LineCall.Make c) b r n =
+turn_alike d₁ d₂ s None b r n = record { answer = refl; later = s }
+turn_alike d₁ d₂ s (Some LineCall.Sheet) b r n = absurd n
+turn_alike d₁ d₂ s (Some (LineCall.Make c)) b r n =
     let w = r in
     record { answer = ap answer_line (ap (first_or Answer.Done) (s (c ∷ []) (w, tt))); later = λ cs ws. ap rest (s (c ∷ cs) (w, ws)) }
 
@@ -92,7 +93,7 @@ lines_alike d₁ d₂ s (e ∷ es) n =
 abbrev line_of : Call → Entry
 line_of c = record { line = call_text c; buffer = [] }
 
-made_sheet : {c : Call} → LineCall.Make c ≡ LineCall.Sheet → ⊥
+made_sheet : {c : Call} → Some (LineCall.Make c) ≡ Some LineCall.Sheet → ⊥
 made_sheet p = let z : ◌≡◌ {A = ℕ} 0 1 = cc in absurd (omega arith)
 
 not_sheet : (c : Call) → Writable c → ¬ (call_text c ≡ sheet_call_text)

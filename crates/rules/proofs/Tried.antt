@@ -1,10 +1,14 @@
 -- Every call against the conditions that it tests, in their order, and what it leaves where one of them applies.
+use Rattle.head_ready.specs.declared.Generation.{Generation}
+use Rattle.head_count.specs.declared.Seq.{Seq}
+use Rattle.head_ready.specs.declared.HeadOutcome.{HeadOutcome}
 use Prim.Native.Nat.{ℕ}
 use native.Mathlib.Omega.{arith}
 use mathlib.Core.List.{List, [], ◌∷◌}
 use mathlib.Core.Logic.{◌⊎◌, inl, inr}
 use mathlib.Core.Path.{◌≡◌, refl}
 use lib.Dec.{ltb}
+use Rattle.std.specs.Prelude.{Some, Option, None, Result}
 use Rattle.alike.proofs.Tests.{by_if, same_anchor_lem}
 use Rattle.head_anchor.specs.Anchors.{holds, same_anchor}
 use Rattle.head_anchor.specs.Lists.{as_prepared}
@@ -37,15 +41,11 @@ use Rattle.head_anchor.specs.declared.ReadAnchor.{ReadAnchor}
 use Rattle.head_count.specs.declared.Epoch.{Epoch}
 use Rattle.head_attempt.specs.declared.Waiter.{Waiter}
 use Rattle.head_current.specs.declared.CurrentHead.{CurrentHead}
-use Rattle.head_current.specs.declared.DeliverySlot.{DeliverySlot}
 use Rattle.head_current.specs.declared.HeadDelivery.{HeadDelivery}
 use Rattle.head_current.specs.declared.HeadTicket.{HeadTicket}
-use Rattle.head_deliver.specs.declared.head_lifecycle.Repeat.{Repeat}
 use Rattle.head_driver.specs.declared.Driver.{Driver}
 use Rattle.head_driver.specs.declared.Reply.{Reply}
-use Rattle.head_ready.specs.declared.GenerationSlot.{GenerationSlot}
 use Rattle.head_plan.specs.declared.head_lifecycle.ApplyPlan.{ApplyPlan}
-use Rattle.head_claim.specs.declared.head_lifecycle.ClaimStart.{ClaimStart}
 use Rattle.head_call.specs.declared.Call.{Call}
 use Rattle.script_call.specs.declared.LineCall.{LineCall}
 use Rattle.rules.specs.Refusals.{FirstThatApplies, HeadInstalled, Refusal, Test, already_installed, already_settled, call_tests, foreign, free, in_flight, after_refusal, not_free, superseded, test}
@@ -55,7 +55,7 @@ use Rattle.rules.proofs.Conditions.{anchor_is_not, installed_is, installed_is_no
 -- the driver that a refusal leaves
 abbrev pub Leaves : Driver → Call → Refusal → Driver → Type 0
 Leaves d c Refusal.accepted e = Unit {0}
-Leaves d c (Refusal.refused n names) e = e ≡ after_refusal d (LineCall.Make c) n
+Leaves d c (Refusal.refused n names) e = e ≡ after_refusal d (Some (LineCall.Make c)) n
 
 -- a reply is what the first condition that applies says, and leaves the driver so
 pub record Met (d : Driver) (c : Call) (ts : List Test) (r : Reply) : Type 0 where
@@ -72,17 +72,17 @@ neither n m (inr b) = m b
 
 -- ---- claim
 
-module _ (d : Driver) (ticket : HeadTicket) (i : GenerationSlot) where
-  abbrev Claims : List Test → ClaimStart → Type 0
+module _ (d : Driver) (ticket : HeadTicket) (i : Option Generation) where
+  abbrev Claims : List Test → Result Epoch HeadOutcome → Type 0
   Claims ts s = Met d (Call.Claim ticket) ts (claim_as d s)
 
   -- 11, then 13 where `Settled` says so, then what comes after
-  gate_met : (held : HeadDelivery) (Settled : Type 0) (ts : List Test) (next : ClaimStart) → (HeadInstalled i (DeliverySlot.Held held) → Settled)
-      → (¬ HeadInstalled i (DeliverySlot.Held held) → Claims (test Settled 13 [] ∷ ts) next)
-      → Claims (superseded (DeliverySlot.Held held) ticket ∷ (test Settled 13 [] ∷ ts)) (claim_gate (slot_anchor i) held ticket next)
+  gate_met : (held : HeadDelivery) (Settled : Type 0) (ts : List Test) (next : Result Epoch HeadOutcome) → (HeadInstalled i (Some held) → Settled)
+      → (¬ HeadInstalled i (Some held) → Claims (test Settled 13 [] ∷ ts) next)
+      → Claims (superseded (Some held) ticket ∷ (test Settled 13 [] ∷ ts)) (claim_gate (slot_anchor i) held ticket next)
   unfolding claim_gate claim_as
   gate_met held Settled ts next settled later =
-      let all = superseded (DeliverySlot.Held held) ticket ∷ (test Settled 13 [] ∷ ts) in
+      let all = superseded (Some held) ticket ∷ (test Settled 13 [] ∷ ts) in
       by_if (Claims all) (ticket_of held ticket) _ _
       (λ e.
       let t = ticket_is held ticket e in
@@ -105,11 +105,11 @@ module _ (d : Driver) (ticket : HeadTicket) (list : PreparedBal) (handle carried
   Applies ts p = Met d (Call.Apply ticket list handle carried report) ts (apply_as d list.skip handle carried report p)
 
   -- 11, 12, 13
-  plan_met : (i : GenerationSlot) (s : DeliverySlot) → Applies (superseded s ticket ∷ (foreign s list ∷ (already_installed i s ∷ []))) (plan_at (slot_anchor i) s ticket list.anchor)
+  plan_met : (i : Option Generation) (s : Option HeadDelivery) → Applies (superseded s ticket ∷ (foreign s list ∷ (already_installed i s ∷ []))) (plan_at (slot_anchor i) s ticket list.anchor)
   unfolding plan_held apply_as settle_as with_life counted raise
-  plan_met i DeliverySlot.Nothing = record { first = inl (tt, refl); leaves = refl }
-  plan_met i (DeliverySlot.Held held) =
-      let s = DeliverySlot.Held held in
+  plan_met i None = record { first = inl (tt, refl); leaves = refl }
+  plan_met i (Some held) =
+      let s = Some held in
       let all = superseded s ticket ∷ (foreign s list ∷ (already_installed i s ∷ [])) in
       by_if (Applies all) (ticket_of held ticket) _ _
       (λ e. past (λ n. n (ticket_is held ticket e))
@@ -152,10 +152,10 @@ resume_met d (Waiter.Ended a) n spare = past ended_taken (join_met d (Call.Resum
 
 -- ---- every call
 
-deliver_met : (d : Driver) (a : ReadAnchor) (p : Hash) (cold : ℕ) (r : Repeat) → Met d (Call.Deliver a p cold) [] (deliver_as d a p cold r)
+deliver_met : (d : Driver) (a : ReadAnchor) (p : Hash) (cold : ℕ) (r : Option Seq) → Met d (Call.Deliver a p cold) [] (deliver_as d a p cold r)
 unfolding deliver_as
-deliver_met d a p cold Repeat.New = record { first = refl; leaves = tt }
-deliver_met d a p cold (Repeat.Of n) = record { first = refl; leaves = tt }
+deliver_met d a p cold None = record { first = refl; leaves = tt }
+deliver_met d a p cold (Some n) = record { first = refl; leaves = tt }
 
 dispatch_met : (d : Driver) (c : Call) → Met d c (call_tests d c) (dispatch d c)
 unfolding dispatch deliver claim claim_start release apply plan_apply snapshot viewed wait resume completion link report stats heads

@@ -1,4 +1,5 @@
 -- Demand 1 over lines: a line is turned away exactly by the first condition that applies, and changes no more than document 01 says.
+use Rattle.head_ready.specs.declared.Generation.{Generation}
 use Prim.Native.Nat.{ℕ}
 use native.Mathlib.Omega.{arith}
 use mathlib.Core.Bool.{Bool, true, false}
@@ -8,6 +9,7 @@ use mathlib.Core.Path.{◌≡◌, refl, ap, sym, ◌∙◌, subst}
 use lib.Dec.{ltb}
 use lib.ListN.{length}
 use borrow.Author.Tests.{ltb-false, ltb-true}
+use Rattle.std.specs.Prelude.{Option, Some, None}
 use Rattle.alike.proofs.Tests.{at_same, nothing_at}
 use Rattle.alike.specs.Invariant.{WhenSettled}
 use Rattle.driver.specs.Turns.{made, sheet_after, sheet_answer, turn_of}
@@ -20,12 +22,9 @@ use Rattle.script_call.proofs.Ranges.{call_range}
 use Rattle.script_call.specs.Calls.{call}
 use Rattle.script_call.specs.Texts.{sheet_call_text}
 use Rattle.script_value.specs.Buffers.{buffer_after, written}
-use Rattle.head_anchor.specs.declared.AnchorSlot.{AnchorSlot}
 use Rattle.head_current.specs.declared.CurrentHead.{CurrentHead}
-use Rattle.head_current.specs.declared.DeliverySlot.{DeliverySlot}
 use Rattle.head_current.specs.declared.HeadDelivery.{HeadDelivery}
 use Rattle.head_driver.specs.declared.Driver.{Driver}
-use Rattle.head_ready.specs.declared.GenerationSlot.{GenerationSlot}
 use Rattle.head_call.specs.declared.Call.{Call}
 use Rattle.script_call.specs.declared.LineCall.{LineCall}
 use Rattle.rules.specs.Refusals.{FirstThatApplies, HeadInstalled, IsSettled, Refusal, Test, later_tests, no_call, tests, too_short}
@@ -46,45 +45,45 @@ one_first (t ∷ ts) r s (inr p) (inr q) = one_first ts r s p.1 q.1
 -- ---- what each line gets
 
 -- the first condition that applies says what is answered, and no more is changed
-record Got (d : Driver) (ts : List Test) (q : LineCall) (buffer : List ℕ) : Type 0 where
+record Got (d : Driver) (ts : List Test) (q : Option LineCall) (buffer : List ℕ) : Type 0 where
   first : FirstThatApplies ts (line_refusal (turn_of d q buffer).answer)
   unchanged : Unchanged d q buffer (line_refusal (turn_of d q buffer).answer) (turn_of d q buffer).driver (sheet_after d q buffer)
 
-kept : (d : Driver) (c : Call) (buffer : List ℕ) (r : Refusal) (d' : Driver) → Leaves d c r d' → Unchanged d (LineCall.Make c) buffer r d' buffer
+kept : (d : Driver) (c : Call) (buffer : List ℕ) (r : Refusal) (d' : Driver) → Leaves d c r d' → Unchanged d (Some (LineCall.Make c)) buffer r d' buffer
 kept d c buffer Refusal.accepted d' e = tt
 kept d c buffer (Refusal.refused n names) d' e = (e, refl)
 
-no_call_sheet : {X : Type 0} → LineCall.NoCall ≡ LineCall.Sheet → X
+no_call_sheet : {X : Type 0} → None ≡ Some LineCall.Sheet → X
 no_call_sheet p = let z : ◌≡◌ {A = ℕ} 0 1 = cc in absurd (omega arith)
 
-no_call_made : {X : Type 0} {c : Call} → LineCall.NoCall ≡ LineCall.Make c → X
+no_call_made : {X : Type 0} {c : Call} → None ≡ Some (LineCall.Make c) → X
 no_call_made p = let z : ◌≡◌ {A = ℕ} 0 1 = cc in absurd (omega arith)
 
 -- a line that is read as no call is none
-is_no_call : (line : List ℕ) → call line ≡ LineCall.NoCall → (no_call line).applies
+is_no_call : (line : List ℕ) → call line ≡ None → (no_call line).applies
 unfolding sheet_call_text
 is_no_call line e = (λ p. no_call_sheet (sym e ∙ ap call p ∙ sheet_back), λ c w p. no_call_made (sym e ∙ ap call p ∙ call_back c w))
 
-is_sheet : (line : List ℕ) → call line ≡ LineCall.Sheet → ¬ (no_call line).applies
+is_sheet : (line : List ℕ) → call line ≡ Some LineCall.Sheet → ¬ (no_call line).applies
 unfolding sheet_call_text
 is_sheet line e n = n.0 (sheet_only line e)
 
-is_call : (line : List ℕ) (c : Call) → call line ≡ LineCall.Make c → ¬ (no_call line).applies
+is_call : (line : List ℕ) (c : Call) → call line ≡ Some (LineCall.Make c) → ¬ (no_call line).applies
 is_call line c e n = n.1 c (rw e at (call_range line)) (call_only line c e)
 
-sheet_got : (d : Driver) (buffer : List ℕ) (t : Test) → (¬ t.applies) → Got d (t ∷ (too_short buffer ∷ [])) LineCall.Sheet buffer
+sheet_got : (d : Driver) (buffer : List ℕ) (t : Test) → (¬ t.applies) → Got d (t ∷ (too_short buffer ∷ [])) (Some LineCall.Sheet) buffer
 unfolding turn_of sheet_after sheet_answer written buffer_after
 sheet_got d buffer t n = go (ltb (length buffer) 4096) refl
   where
-    go : (b : Bool) → ltb (length buffer) 4096 ≡ b → Got d (t ∷ (too_short buffer ∷ [])) LineCall.Sheet buffer
+    go : (b : Bool) → ltb (length buffer) 4096 ≡ b → Got d (t ∷ (too_short buffer ∷ [])) (Some LineCall.Sheet) buffer
     go true e = record { first = inr (n, inl (ltb-true (length buffer) 4096 e, rw e)); unchanged = rw e (refl, refl) }
     go false e = record { first = inr (n, inr (λ h. omega (arith, ltb-false (length buffer) 4096 e), rw e)); unchanged = rw e tt }
 
-got : (d : Driver) (line buffer : List ℕ) (q : LineCall) → call line ≡ q → Got d (no_call line ∷ later_tests d q buffer) q buffer
+got : (d : Driver) (line buffer : List ℕ) (q : Option LineCall) → call line ≡ q → Got d (no_call line ∷ later_tests d q buffer) q buffer
 unfolding turn_of made sheet_after
-got d line buffer LineCall.NoCall e = record { first = inl (is_no_call line e, refl); unchanged = (refl, refl) }
-got d line buffer LineCall.Sheet e = sheet_got d buffer (no_call line) (is_sheet line e)
-got d line buffer (LineCall.Make c) e =
+got d line buffer None e = record { first = inl (is_no_call line e, refl); unchanged = (refl, refl) }
+got d line buffer (Some LineCall.Sheet) e = sheet_got d buffer (no_call line) (is_sheet line e)
+got d line buffer (Some (LineCall.Make c)) e =
     let m = step_met d c in
     record { first = inr (is_call line c e, m.first); unchanged = kept d c buffer (answer_refusal (step d c).answer) (step d c).driver m.leaves }
 
@@ -101,12 +100,12 @@ turned_away d line buffer =
 
 -- ---- a settled head is installed
 
-anchor_installed : (i : GenerationSlot) (held : HeadDelivery) → slot_anchor i ≡ AnchorSlot.At held.anchor → HeadInstalled i (DeliverySlot.Held held)
+anchor_installed : (i : Option Generation) (held : HeadDelivery) → slot_anchor i ≡ Some held.anchor → HeadInstalled i (Some held)
 unfolding slot_anchor
-anchor_installed GenerationSlot.Nothing held e = nothing_at e
-anchor_installed (GenerationSlot.Held g) held e = at_same e
+anchor_installed None held e = nothing_at e
+anchor_installed (Some g) held e = at_same e
 
-head_installed : (i : GenerationSlot) (c : CurrentHead) → WhenSettled c (λ s. slot_anchor i ≡ AnchorSlot.At s.delivery.anchor) → IsSettled c → HeadInstalled i (delivery c)
+head_installed : (i : Option Generation) (c : CurrentHead) → WhenSettled c (λ s. slot_anchor i ≡ Some s.delivery.anchor) → IsSettled c → HeadInstalled i (delivery c)
 unfolding delivery
 head_installed i CurrentHead.Absent f s = absurd s
 head_installed i (CurrentHead.Unclaimed u) f s = absurd s

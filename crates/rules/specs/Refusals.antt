@@ -1,6 +1,7 @@
 -- Document 01, "Turned away by the input", "Turned away by the state": each condition in its words, which call tests which, and what a refusal changes.
-use Rattle.std.specs.Prelude.{ℕ, ◌<◌, Bool, true, false, List, [], ◌∷◌, ◌↔◌, ◌⊎◌, ◌≡◌, eqb, length}
-use Rattle.hash.specs.Logic.{if}
+use Rattle.head_ready.specs.declared.Generation.{Generation}
+use Rattle.head_current.specs.declared.HeadDelivery.{HeadDelivery}
+use Rattle.std.specs.Prelude.{ℕ, ◌<◌, Bool, true, false, List, [], ◌∷◌, ◌↔◌, ◌⊎◌, ◌≡◌, eqb, length, Option, Some, None, cond}
 use Rattle.head_count.specs.Counters.{stats_of, up}
 use Rattle.head_current.specs.Heads.{delivery}
 use Rattle.head_life.specs.State.{with_stats}
@@ -11,15 +12,12 @@ use Rattle.script_call.specs.Texts.{call_text}
 use Rattle.text.specs.Ascii.{ascii}
 use Rattle.head_anchor.specs.declared.BalSkip.{BalSkip}
 use Rattle.head_anchor.specs.declared.PreparedBal.{PreparedBal}
-use Rattle.head_anchor.specs.declared.BlockHash.{BlockHash}
 use Rattle.head_anchor.specs.declared.ReadAnchor.{ReadAnchor}
 use Rattle.head_count.specs.declared.HeadStats.{HeadStats}
 use Rattle.head_attempt.specs.declared.Waiter.{Waiter}
 use Rattle.head_current.specs.declared.CurrentHead.{CurrentHead}
-use Rattle.head_current.specs.declared.DeliverySlot.{DeliverySlot}
 use Rattle.head_current.specs.declared.HeadTicket.{HeadTicket}
 use Rattle.head_driver.specs.declared.Driver.{Driver}
-use Rattle.head_ready.specs.declared.GenerationSlot.{GenerationSlot}
 use Rattle.head_call.specs.declared.Call.{Call}
 use Rattle.script_call.specs.declared.LineCall.{LineCall}
 
@@ -40,7 +38,7 @@ no_call line = test ((¬ (line ≡ ascii "(sheet)")) × ((c : Call) → Writable
 
 -- 2 list and anchor disagree on `no-hash`: it is not so that the skip is `no-hash` exactly when the anchor has no hash
 abbrev pub at_odds : PreparedBal → Test
-at_odds list = test (¬ ((list.skip ≡ BalSkip.NoHash) ↔ (list.anchor.hash ≡ BlockHash.Unknown))) 2 []
+at_odds list = test (¬ ((list.skip ≡ BalSkip.NoHash) ↔ (list.anchor.hash ≡ None))) 2 []
 
 -- 3 waiter number above 15
 abbrev pub no_waiter : ℕ → Test
@@ -53,20 +51,20 @@ too_short buffer = test (length buffer < 4096) 4 []
 -- ---- turned away by the state
 
 -- 11 superseded: no current head (names the ticket's anchor), or ticket's anchor or seq is not the current head's (names the current anchor)
-abbrev pub superseded : DeliverySlot → HeadTicket → Test
-superseded DeliverySlot.Nothing ticket = test (Unit {0}) 11 (ticket.anchor ∷ [])
-superseded (DeliverySlot.Held held) ticket = test (¬ ((ticket.anchor ≡ held.anchor) × (ticket.seq ≡ held.seq))) 11 (held.anchor ∷ [])
+abbrev pub superseded : Option HeadDelivery → HeadTicket → Test
+superseded None ticket = test (Unit {0}) 11 (ticket.anchor ∷ [])
+superseded (Some held) ticket = test (¬ ((ticket.anchor ≡ held.anchor) × (ticket.seq ≡ held.seq))) 11 (held.anchor ∷ [])
 
 -- 12 foreign: the list's anchor is not the head's; names both
-abbrev pub foreign : DeliverySlot → PreparedBal → Test
-foreign DeliverySlot.Nothing list = test ⊥ 12 []
-foreign (DeliverySlot.Held held) list = test (¬ (list.anchor ≡ held.anchor)) 12 (list.anchor ∷ (held.anchor ∷ []))
+abbrev pub foreign : Option HeadDelivery → PreparedBal → Test
+foreign None list = test ⊥ 12 []
+foreign (Some held) list = test (¬ (list.anchor ≡ held.anchor)) 12 (list.anchor ∷ (held.anchor ∷ []))
 
 -- the head is installed
-abbrev pub HeadInstalled : GenerationSlot → DeliverySlot → Type 0
-HeadInstalled installed DeliverySlot.Nothing = ⊥
-HeadInstalled GenerationSlot.Nothing (DeliverySlot.Held held) = ⊥
-HeadInstalled (GenerationSlot.Held g) (DeliverySlot.Held held) = g.anchor ≡ held.anchor
+abbrev pub HeadInstalled : Option Generation → Option HeadDelivery → Type 0
+HeadInstalled installed None = ⊥
+HeadInstalled None (Some held) = ⊥
+HeadInstalled (Some g) (Some held) = g.anchor ≡ held.anchor
 
 abbrev pub IsPreparing : CurrentHead → Type 0
 IsPreparing CurrentHead.Absent = ⊥
@@ -81,11 +79,11 @@ IsSettled (CurrentHead.Preparing u) = ⊥
 IsSettled (CurrentHead.Settled s) = Unit {0}
 
 -- 13 already settled: the head is installed
-abbrev pub already_installed : GenerationSlot → DeliverySlot → Test
+abbrev pub already_installed : Option Generation → Option HeadDelivery → Test
 already_installed installed head = test (HeadInstalled installed head) 13 []
 
 -- the same where a claim asks: a settled head is installed in every driver that lines bring from a new one (`SettledInstalled`), and where it is not, a claim is refused so all the same
-abbrev pub already_settled : GenerationSlot → CurrentHead → Test
+abbrev pub already_settled : Option Generation → CurrentHead → Test
 already_settled installed c = test (HeadInstalled installed (delivery c) ⊎ IsSettled c) 13 []
 
 -- 14 in flight: preparing
@@ -118,10 +116,10 @@ call_tests d Call.Stats = []
 call_tests d Call.Heads = []
 
 -- `(sheet)` tests 4
-abbrev pub later_tests : Driver → LineCall → List ℕ → List Test
-later_tests d LineCall.NoCall buffer = []
-later_tests d LineCall.Sheet buffer = too_short buffer ∷ []
-later_tests d (LineCall.Make c) buffer = call_tests d c
+abbrev pub later_tests : Driver → Option LineCall → List ℕ → List Test
+later_tests d None buffer = []
+later_tests d (Some LineCall.Sheet) buffer = too_short buffer ∷ []
+later_tests d (Some (LineCall.Make c)) buffer = call_tests d c
 
 -- every line is first tested for 1
 abbrev pub tests : Driver → List ℕ → List ℕ → List Test
@@ -144,22 +142,22 @@ abbrev pub one_more_discarded : HeadStats → HeadStats
 one_more_discarded s = stats_of s.delivered s.repeated s.superseded s.settled s.already_current (up s.discarded) s.ready_views s.cold_views
 
 -- apply's 11 and 12
-abbrev pub counted_by : LineCall → ℕ → Bool
-counted_by LineCall.NoCall n = false
-counted_by LineCall.Sheet n = false
-counted_by (LineCall.Make (Call.Deliver a p cold)) n = false
-counted_by (LineCall.Make (Call.Claim ticket)) n = false
-counted_by (LineCall.Make (Call.Release owner)) n = false
-counted_by (LineCall.Make (Call.Apply ticket list handle carried report)) n = if (eqb n 11) true (eqb n 12)
-counted_by (LineCall.Make (Call.Snapshot a spare)) n = false
-counted_by (LineCall.Make (Call.Wait m a spare)) n = false
-counted_by (LineCall.Make (Call.Resume m spare)) n = false
-counted_by (LineCall.Make (Call.Completion a)) n = false
-counted_by (LineCall.Make (Call.Link parent child parent_hash)) n = false
-counted_by (LineCall.Make Call.Report) n = false
-counted_by (LineCall.Make Call.Stats) n = false
-counted_by (LineCall.Make Call.Heads) n = false
+abbrev pub counted_by : Option LineCall → ℕ → Bool
+counted_by None n = false
+counted_by (Some LineCall.Sheet) n = false
+counted_by (Some (LineCall.Make (Call.Deliver a p cold))) n = false
+counted_by (Some (LineCall.Make (Call.Claim ticket))) n = false
+counted_by (Some (LineCall.Make (Call.Release owner))) n = false
+counted_by (Some (LineCall.Make (Call.Apply ticket list handle carried report))) n = cond (eqb n 11) true (eqb n 12)
+counted_by (Some (LineCall.Make (Call.Snapshot a spare))) n = false
+counted_by (Some (LineCall.Make (Call.Wait m a spare))) n = false
+counted_by (Some (LineCall.Make (Call.Resume m spare))) n = false
+counted_by (Some (LineCall.Make (Call.Completion a))) n = false
+counted_by (Some (LineCall.Make (Call.Link parent child parent_hash))) n = false
+counted_by (Some (LineCall.Make Call.Report)) n = false
+counted_by (Some (LineCall.Make Call.Stats)) n = false
+counted_by (Some (LineCall.Make Call.Heads)) n = false
 
 -- apply's 11 and 12 add 1 to discarded; nothing else changes in any refusal
-abbrev pub after_refusal : Driver → LineCall → ℕ → Driver
-after_refusal d q n = if (counted_by q n) (record { life = with_stats d.life (one_more_discarded d.life.stats); waiters = d.waiters }) d
+abbrev pub after_refusal : Driver → Option LineCall → ℕ → Driver
+after_refusal d q n = cond (counted_by q n) (record { life = with_stats d.life (one_more_discarded d.life.stats); waiters = d.waiters }) d

@@ -1,7 +1,6 @@
 -- Document 01, "What contracts say, what cases show": a sheet is what `(sheet)` writes into 4,096 bytes or more, up to its last line feed.
-use Rattle.std.specs.Prelude.{ℕ, List, [], ◌∷◌, eqb, take}
+use Rattle.std.specs.Prelude.{ℕ, List, [], ◌∷◌, eqb, take, cond}
 use Rattle.driver.specs.Turns.{sheet_after, turn_of}
-use Rattle.hash.specs.Logic.{if}
 use Rattle.script_call.specs.Calls.{call}
 use Rattle.text.specs.Ascii.{ascii}
 use Rattle.script_answer.specs.declared.LineAnswer.{LineAnswer}
@@ -9,7 +8,7 @@ use Rattle.head_driver.specs.declared.Driver.{Driver}
 
 -- a byte in front of a text that was cut so: a line feed, which is 10, stays, and so does whatever stands before one
 unfoldable pub onto : ℕ → List ℕ → List ℕ
-onto b [] = if (eqb b 10) (b ∷ []) []
+onto b [] = cond (eqb b 10) (b ∷ []) []
 onto b (c ∷ s) = b ∷ (c ∷ s)
 
 -- a text up to its last line feed

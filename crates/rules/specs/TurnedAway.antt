@@ -1,5 +1,5 @@
 -- What is proved of refusals: demand 1 over lines.
-use Rattle.std.specs.Prelude.{ℕ, List, ◌↔◌, ◌≡◌}
+use Rattle.std.specs.Prelude.{ℕ, List, ◌↔◌, ◌≡◌, Option}
 use Rattle.alike.specs.Invariant.{Invariant}
 use Rattle.driver.specs.Turns.{sheet_after, turn_of}
 use Rattle.script_answer.specs.Answers.{line_text}
@@ -12,7 +12,7 @@ use Rattle.rules.specs.Refusals.{FirstThatApplies, HeadInstalled, IsSettled, Ref
 use Rattle.rules.specs.Said.{Says, line_refusal}
 
 -- after a refusal the driver is as it was but for discarded, and the sheet buffer keeps every byte
-abbrev pub Unchanged : Driver → LineCall → List ℕ → Refusal → Driver → List ℕ → Type 0
+abbrev pub Unchanged : Driver → Option LineCall → List ℕ → Refusal → Driver → List ℕ → Type 0
 Unchanged d q buffer Refusal.accepted d' buffer' = Unit {0}
 Unchanged d q buffer (Refusal.refused n names) d' buffer' = (d' ≡ after_refusal d q n) × (buffer' ≡ buffer)
 

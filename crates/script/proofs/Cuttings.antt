@@ -8,21 +8,20 @@ use lib.Dec.{eqb, ltb}
 use lib.ListN.{length, take}
 use lib.Seq.{length-take-le, take_all}
 use borrow.Author.Tests.{lt-ltb, ltb-true, ltb-false, ne_eqb}
-use Rattle.hash.specs.Logic.{if}
+use Rattle.std.specs.Prelude.{None, cond}
 use Rattle.head_driver.specs.New.{new}
 use Rattle.pending.specs.Kept.{keep_byte, keep_all, line_so_far}
 use Rattle.pending.proofs.Held.{Sound, sound_byte, held_line}
 use Rattle.script_call.specs.Calls.{call}
 use Rattle.script.specs.Prints.{prints}
 use Rattle.head_driver.specs.declared.Driver.{Driver}
-use Rattle.script_call.specs.declared.LineCall.{LineCall}
 use Rattle.script.specs.Scripts.{lines_after, lines, last_line_of, answered, script}
 use Rattle.script.specs.Feeds.{Reading, reading, line_ends, byte_taken, byte_prints, all_taken, all_prints, last_of, last_prints}
 use Rattle.script.specs.Statements.{AnyCutting, joined, printed_in}
 
 -- ---- the first 513 bytes of a line decide
 
-long_no_call : (l : List ℕ) → 512 < length l → call l ≡ LineCall.NoCall
+long_no_call : (l : List ℕ) → 512 < length l → call l ≡ None
 unfolding call
 long_no_call l h = rw (ne_eqb (length l) 0 (λ e. absurd (omega (arith, e))), lt-ltb 512 (length l) h)
 
@@ -117,7 +116,7 @@ by_lines [] s line h = nothing_left s line h
 by_lines (b ∷ input) s line h = whole_cons s b input ∙ go (eqb b 10) refl (by_lines input)
   where
     go : (t : Bool) → eqb b 10 ≡ t → ((t : Reading) (line : List ℕ) → Holds t line → whole t input ≡ answered t.driver (lines_after line input))
-        → byte_prints s b ++ whole (byte_taken s b) input ≡ answered s.driver (if t (line ∷ lines_after [] input) (lines_after (line ++ (b ∷ [])) input))
+        → byte_prints s b ++ whole (byte_taken s b) input ≡ answered s.driver (cond t (line ∷ lines_after [] input) (lines_after (line ++ (b ∷ [])) input))
     go true e more =
         at_feed s b input e
         ∙ ap (λ (r : List ℕ). prints s.driver (call (line_so_far s.kept)) ++ r) (more (line_ends s) [] (holds_ended s line h))

@@ -1,4 +1,5 @@
 -- The end of the input.
+use Rattle.std.specs.Prelude.{cond, ◌&&◌}
 use Prim.Native.Nat.{ℕ, zero, suc, ◌≤◌, ◌<◌}
 use native.Mathlib.Nat.{not-suc-le-zero}
 use native.Mathlib.Omega.{arith}
@@ -8,7 +9,6 @@ use mathlib.Core.Path.{◌≡◌, refl, sym, ◌∙◌}
 use lib.Dec.{leb}
 use lib.ListN.{length, take}
 use borrow.Author.Tests.{leb-true}
-use Rattle.hash.specs.Logic.{if, both}
 use Rattle.pending.specs.Kept.{line_so_far}
 use Rattle.script_call.specs.Calls.{call}
 use Rattle.script.specs.Parts.{Prints, at_front}
@@ -27,7 +27,7 @@ pub lent_of : (pending held out : ℕ) (t : Bool) → t ≡ usable pending held 
 unfolding usable
 lent_of pending held out t e is = go (leb 513 pending) (leb held 513) (leb 4096 out) refl refl refl (sym is ∙ e)
   where
-    go : (a b c : Bool) → leb 513 pending ≡ a → leb held 513 ≡ b → leb 4096 out ≡ c → true ≡ both a (both b c) → Lent pending held out
+    go : (a b c : Bool) → leb 513 pending ≡ a → leb held 513 ≡ b → leb 4096 out ≡ c → true ≡ (a && (b && c)) → Lent pending held out
     go true true true f g h k = record { room = leb-true 513 pending f; few = leb-true held 513 g; space = leb-true 4096 out h }
     go true true false f g h k = absurd (true≢false k)
     go true false c f g h k = absurd (true≢false k)
@@ -49,7 +49,7 @@ module _ (d : Driver) (pending : List ℕ) (held : ℕ) (old : List ℕ) where
   unfolding last_prints last_leaves line_so_far
   none_held h = go held h (lent (reading d pending held) old)
     where
-      go : (n : ℕ) → n ≤ 0 → (t : Bool) → Prints (if t (last_of d (take n pending)) []) (if t (last_left d (take n pending)) d) old old (record { driver = d; written = 0 })
+      go : (n : ℕ) → n ≤ 0 → (t : Bool) → Prints (cond t (last_of d (take n pending)) []) (cond t (last_left d (take n pending)) d) old old (record { driver = d; written = 0 })
       go zero h true = nothing
       go zero h false = nothing
       go (suc n) h t = absurd (not-suc-le-zero h)

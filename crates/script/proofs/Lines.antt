@@ -1,4 +1,5 @@
 -- Up to a line feed bytes are kept and nothing is printed; at the line feed the line is answered.
+use Rattle.std.specs.Prelude.{cond}
 use Prim.Native.Nat.{ℕ, zero, suc, ◌+◌, ◌-◌, ◌≤◌, ◌<◌}
 use native.Mathlib.Nat.{zero-add, suc-add, le_of_suc-le-suc, not-suc-le-zero}
 use native.Mathlib.Omega.{arith}
@@ -8,7 +9,6 @@ use mathlib.Core.Path.{◌≡◌, refl, ap, sym, ◌∙◌}
 use lib.Dec.{eqb}
 use lib.ListN.{length, drop, length-append, length-drop}
 use lib.Seq.{slice, take-append_seam}
-use Rattle.hash.specs.Logic.{if}
 use Rattle.pending.specs.Kept.{Keeps, Part, part, keep_all, keep_byte, line_so_far, through_line_feed, to_line_feed}
 use Rattle.pending.proofs.LineFeeds.{no_feed, through_all, through_feed, through_front, through_some}
 use Rattle.pending.proofs.Held.{sound_all}
@@ -58,7 +58,7 @@ unfolding to_line_feed
 before_feed [] d p = before_none d p
 before_feed (b ∷ x) d p = go (eqb b 10) refl (before_feed x d (keep_byte p b))
   where
-    go : (t : Bool) → eqb b 10 ≡ t → Before (to_line_feed x) d (keep_byte p b) → Before (if t [] (b ∷ to_line_feed x)) d p
+    go : (t : Bool) → eqb b 10 ≡ t → Before (to_line_feed x) d (keep_byte p b) → Before (cond t [] (b ∷ to_line_feed x)) d p
     go true e more = before_none d p
     go false e more = before_more b (to_line_feed x) d p e more
 

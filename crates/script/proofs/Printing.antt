@@ -4,6 +4,7 @@ use mathlib.Core.List.{List}
 use mathlib.Core.Path.{◌≡◌, refl, ap, sym, ◌∙◌}
 use lib.ListN.{length}
 use borrow.Author.Tests.{le-ltb}
+use Rattle.std.specs.Prelude.{Option, Some, None}
 use Rattle.driver.specs.Turns.{Takes, made, sheet_after, sheet_answer, turn_of}
 use Rattle.script_answer.specs.Answers.{line_text}
 use Rattle.script_call.specs.Calls.{call}
@@ -13,23 +14,23 @@ use Rattle.script_answer.specs.declared.LineAnswer.{LineAnswer}
 use Rattle.driver.specs.declared.Turn.{Turn}
 use Rattle.head_driver.specs.declared.Driver.{Driver}
 use Rattle.script_call.specs.declared.LineCall.{LineCall}
-use Rattle.script_value.specs.declared.buffer.Written.{Written}
+use Rattle.std.specs.Prelude.{Option, unwrap_or}
 use Rattle.script.specs.Prints.{leaves, prints}
-use Rattle.script.specs.Parts.{Prints, PutsAnswer, answer_length, at_front, bytes_written}
+use Rattle.script.specs.Parts.{Prints, PutsAnswer, answer_length, at_front}
 
 -- an answer's line is put, and counted
-puts : (a : LineAnswer) (old new : List ℕ) (w : Written) (n : ℕ) → answer_length a ≡ length (line_text a) → 512 ≤ length old
-    → AtFront 512 old new (line_text a) w → n ≡ bytes_written w → PutsAnswer a old new n
-unfolding written buffer_after bytes_written at_front
+puts : (a : LineAnswer) (old new : List ℕ) (w : Option ℕ) (n : ℕ) → answer_length a ≡ length (line_text a) → 512 ≤ length old
+    → AtFront 512 old new (line_text a) w → n ≡ unwrap_or w 0 → PutsAnswer a old new n
+unfolding written buffer_after at_front
 puts a old new w n e room front told = record {
   bytes = front.bytes ∙ rw (le-ltb (length old) 512 room);
-  count = told ∙ ap bytes_written front.result ∙ rw (le-ltb (length old) 512 room) (sym e);
+  count = told ∙ ap (λ (v : Option ℕ). unwrap_or v 0) front.result ∙ rw (le-ltb (length old) 512 room) (sym e);
 }
 
 module _ (answer : LineAnswer) (old : List ℕ) where
   -- every answer but a sheet
-  pub puts_line : (a : LineAnswer) (new : List ℕ) (w : Written) (n : ℕ) → answer_length a ≡ length (line_text a) → answer ≡ a → 512 ≤ length old
-      → AtFront 512 old new (line_text a) w → n ≡ bytes_written w → PutsAnswer answer old new n
+  pub puts_line : (a : LineAnswer) (new : List ℕ) (w : Option ℕ) (n : ℕ) → answer_length a ≡ length (line_text a) → answer ≡ a → 512 ≤ length old
+      → AtFront 512 old new (line_text a) w → n ≡ unwrap_or w 0 → PutsAnswer answer old new n
   puts_line a new w n e is room front told = rw is (puts a old new w n e room front told)
 
   pub puts_sheet : (n : ℕ) → answer ≡ LineAnswer.Sheet n → PutsAnswer answer old old n
@@ -45,12 +46,12 @@ module _ (d : Driver) (old : List ℕ) (room : 4096 ≤ length old) where
       let q = rw (le-ltb (length old) 4096 room) at p in
       record { driver = refl; bytes = q.bytes; count = q.count }
 
-  by_call : (c : LineCall) (new : List ℕ) (n : ℕ) → PutsAnswer (turn_of d c old).answer (sheet_after d c old) new n
+  by_call : (c : Option LineCall) (new : List ℕ) (n : ℕ) → PutsAnswer (turn_of d c old).answer (sheet_after d c old) new n
       → Prints (prints d c) (leaves d c) old new (record { driver = (turn_of d c old).driver; written = n })
   unfolding prints leaves turn_of sheet_after made answer_length
-  by_call LineCall.NoCall new n p = record { driver = refl; bytes = p.bytes; count = p.count }
-  by_call LineCall.Sheet new n p = sheet_put new n p
-  by_call (LineCall.Make c) new n p = record { driver = refl; bytes = p.bytes; count = p.count }
+  by_call None new n p = record { driver = refl; bytes = p.bytes; count = p.count }
+  by_call (Some LineCall.Sheet) new n p = sheet_put new n p
+  by_call (Some (LineCall.Make c)) new n p = record { driver = refl; bytes = p.bytes; count = p.count }
 
   pub prints_line : (line mid new : List ℕ) (t : Turn) (n : ℕ) → Takes d line old mid t → PutsAnswer t.answer mid new n
       → Prints (prints d (call line)) (leaves d (call line)) old new (record { driver = t.driver; written = n })

@@ -1,6 +1,5 @@
 -- An input byte by byte. The bytes of the line that has not ended are kept, at most 513 of them, at the front of a buffer.
-use Rattle.std.specs.Prelude.{ℕ, ◌+◌, ◌≤◌, ◌<◌, Bool, false, List, [], ◌∷◌, ◌++◌, ◌⊎◌, ◌≡◌, eqb, leb, length, take}
-use Rattle.hash.specs.Logic.{if, both}
+use Rattle.std.specs.Prelude.{ℕ, ◌+◌, ◌≤◌, ◌<◌, Bool, false, List, [], ◌∷◌, ◌++◌, ◌⊎◌, ◌≡◌, eqb, leb, length, take, cond, ◌&&◌}
 use Rattle.pending.specs.Kept.{Part, part, keep_byte, line_so_far}
 use Rattle.script_call.specs.Calls.{call}
 use Rattle.script.specs.Parts.{Prints}
@@ -24,10 +23,10 @@ unfoldable pub line_ends : Reading → Reading
 line_ends s = reading (leaves s.driver (call (line_so_far s.kept))) s.kept.buffer 0
 
 unfoldable pub byte_taken : Reading → ℕ → Reading
-byte_taken s b = if (eqb b 10) (line_ends s) (record { driver = s.driver; kept = keep_byte s.kept b })
+byte_taken s b = cond (eqb b 10) (line_ends s) (record { driver = s.driver; kept = keep_byte s.kept b })
 
 unfoldable pub byte_prints : Reading → ℕ → List ℕ
-byte_prints s b = if (eqb b 10) (prints s.driver (call (line_so_far s.kept))) []
+byte_prints s b = cond (eqb b 10) (prints s.driver (call (line_so_far s.kept))) []
 
 -- ---- many bytes
 
@@ -72,14 +71,14 @@ pub record AnswersHeld (fed : Fed) (pending old new : List ℕ) (r : Fed) : Type
 
 -- room for 513 bytes of a line, no more of them held, and room for 4,096 bytes of answers
 unfoldable pub usable : ℕ → ℕ → ℕ → Bool
-usable pending held out = both (leb 513 pending) (both (leb held 513) (leb 4096 out))
+usable pending held out = leb 513 pending && (leb held 513 && leb 4096 out)
 
 abbrev pub lent : Reading → List ℕ → Bool
 lent s out = usable (length s.kept.buffer) s.kept.held (length out)
 
 -- what is promised of `finish`: the last line's answer, where the host's buffers can be used
 abbrev pub Finishes : Reading → List ℕ → List ℕ → Printed → Type 0
-Finishes s old new r = Prints (if (lent s old) (last_prints s) []) (if (lent s old) (last_leaves s) s.driver) old new r
+Finishes s old new r = Prints (cond (lent s old) (last_prints s) []) (cond (lent s old) (last_leaves s) s.driver) old new r
 
 -- What is promised of `feed`. How much of the input it takes is left open, since it stops where the room for answers ends: all of it, or what leaves
 -- less than 4,096 bytes of room, or nothing, where the host's buffers cannot be used. Of what it takes everything is told.

@@ -3,12 +3,7 @@ use Rattle.std.specs.Prelude.{ℕ, List, ◌++◌, ◌≡◌, length, drop}
 use Rattle.script_answer.specs.Answers.{line_text}
 use Rattle.script_answer.specs.declared.LineAnswer.{LineAnswer}
 use Rattle.head_driver.specs.declared.Driver.{Driver}
-use Rattle.script_value.specs.declared.buffer.Written.{Written}
 use Rattle.script.specs.declared.Printed.{Printed}
-
-unfoldable pub bytes_written : Written → ℕ
-bytes_written Written.TooShort = 0
-bytes_written (Written.Bytes n) = n
 
 -- what is written of an answer: its line, or the sheet that stands in the buffer already
 unfoldable pub answer_length : LineAnswer → ℕ

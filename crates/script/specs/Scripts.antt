@@ -1,6 +1,5 @@
 -- Document 01, "Lines (added)": the program `headscript`, from all bytes of its input to all bytes of its output.
-use Rattle.std.specs.Prelude.{ℕ, List, [], ◌∷◌, ◌++◌, eqb}
-use Rattle.hash.specs.Logic.{if}
+use Rattle.std.specs.Prelude.{ℕ, List, [], ◌∷◌, ◌++◌, eqb, cond}
 use Rattle.head_driver.specs.New.{new}
 use Rattle.script_call.specs.Calls.{call}
 use Rattle.script.specs.Prints.{leaves, prints}
@@ -13,7 +12,7 @@ last_line_of (b ∷ line) = (b ∷ line) ∷ []
 
 unfoldable pub lines_after : List ℕ → List ℕ → List (List ℕ)
 lines_after line [] = last_line_of line
-lines_after line (b ∷ input) = if (eqb b 10) (line ∷ lines_after [] input) (lines_after (line ++ (b ∷ [])) input)
+lines_after line (b ∷ input) = cond (eqb b 10) (line ∷ lines_after [] input) (lines_after (line ++ (b ∷ [])) input)
 
 unfoldable pub lines : List ℕ → List (List ℕ)
 lines input = lines_after [] input

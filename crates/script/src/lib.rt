@@ -30,11 +30,7 @@ pub struct Fed {
 pub(crate) fn usable(pending: usize, held: usize, out: usize) -> bool
     ensures { result ≡ usable pending held out }
 {
-    if pending >= 513 {
-        if held <= 513 { out >= 4096 } else { false }
-    } else {
-        false
-    }
+    pending >= 513 && held <= 513 && out >= 4096
 }
 
 // Answers what is held as a line; nothing of the next line is held.
@@ -69,6 +65,7 @@ pub fn feed(d: Driver, pending: &mut [u8], held: usize, input: &[u8], out: &mut 
     if !usable(pending.len(), held, out.len()) {
         return fed;
     }
+    // Not a `for`: a turn takes a line, whatever its length.
     while fed.taken < input.len() {
         if out.len() - fed.written < 4096 {
             return fed;

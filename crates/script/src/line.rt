@@ -1,34 +1,23 @@
 // One line's answer as it is printed: its answer's line, or the sheet.
-ghost use Rattle.std.specs.Prelude.{◌≤◌, ◌≡◌, length};
+ghost use Rattle.std.specs.Prelude.{◌≤◌, length};
 ghost use Rattle.script_call.specs.Calls.{call};
 ghost use Rattle.script.specs.Prints.{leaves, prints};
-ghost use Rattle.script.specs.Parts.{Prints, PutsAnswer, bytes_written};
+ghost use Rattle.script.specs.Parts.{Prints, PutsAnswer};
 
 use crate::Printed;
 use driver::{LineAnswer, put_line, take_line};
 use head_driver::Driver;
-use script_value::buffer::Written;
 
-#[tactic(auto, unfolding(crate::specs::Parts::bytes_written))]
-pub(crate) fn bytes_written(written: Written) -> usize
-    ensures { result ≡ bytes_written written }
-{
-    match written {
-        Written::TooShort => 0,
-        Written::Bytes(n) => n,
-    }
-}
-
-// A sheet stands in the buffer already.
+// A sheet stands in the buffer already. An answer of a call has a way of its own: with one for all answers the program is 10 % slower.
 #[tactic(auto, using(crate::proofs::Printing::puts_line, crate::proofs::Printing::puts_sheet), unfolding(crate::specs::Parts::answer_length))]
 pub(crate) fn put_answer(out: &mut [u8], answer: LineAnswer) -> usize
     requires { 512 ≤ length out.old }
     ensures { PutsAnswer answer out.old out.new result }
 {
     match answer {
-        LineAnswer::Said(said) => return bytes_written(put_line(out, LineAnswer::Said(said))),
-        LineAnswer::Sheet(n) => return n,
-        _ => return bytes_written(put_line(out, answer)),
+        LineAnswer::Said(said) => put_line(out, LineAnswer::Said(said)).unwrap_or(0),
+        LineAnswer::Sheet(n) => n,
+        _ => put_line(out, answer).unwrap_or(0),
     }
 }
 

@@ -1,74 +1,70 @@
-// The answers of an apply or a claim: what it settled, or why the state turned it away.
-ghost use Rattle.std.specs.Prelude.{◌+◌, ◌≤◌, ◌++◌, length};
+// The answers of an apply or a claim: what it settled, or why the state turned it away. A bracket, a word and the value each, as in `script_reads`.
+#![tactic(auto, using(text_put::proofs::Writers::wrote_both), unfolding(script_value::specs::Lines::answer_text, script_value::specs::Lines::said_text, head_driver::specs::Answers::said, script_value::specs::Lines::refusal_on, value_text::specs::Values::values_on, value_text::specs::Values::value_text, value_text::specs::Words::word_text, head_driver::specs::Answers::outcome_said, script_outcome::specs::Texts::outcome_text, value_text::specs::Texts::anchor_text))]
+
+ghost use Rattle.std.specs.Prelude.{◌++◌};
 ghost use Rattle.script_value.specs.Lines.{answer_text};
 ghost use Rattle.text.specs.Ascii.{ascii};
 ghost use Rattle.text.specs.Decimals.{decimal};
-ghost use Rattle.text.specs.Writes.{Wrote};
+ghost use Rattle.text_put.specs.Writers.{Puts, Room};
 ghost use Rattle.head_driver.specs.declared.Answer.{Answer};
 
 use head_anchor::{CarryOutcome, ReadAnchor};
 use head_ready::HeadOutcome;
-use number_text::put_named;
+use number_text::{put_decimal, put_named};
 use script_outcome::put_outcome;
-use text_put::put::{put, put_byte};
+use text_put::TextWriter;
 use value_text::anchor::put_anchor;
 use value_text::page::Page;
 
-// Puts a refusal that names nothing but its number.
-pub(crate) fn put_refused(buf: &mut [u8], at: usize, n: u64) -> usize
-    requires { at + 30 ≤ length buf.old }
-    ensures wrote { Wrote buf.old buf.new at result (ascii "(refused " ++ (decimal n ++ ascii ")")) }
-    ensures upper_bound { result ≤ at + 30 }
+// Puts `(refused N`, as every refusal begins.
+pub(crate) fn put_refusal(out: &mut TextWriter<'_>, n: u64)
+    requires { Room out.old 29 }
+    ensures { Puts out.old out.new 29 (ascii "(refused " ++ decimal n) }
 {
-    put_named(buf, at, b"(refused ", n)
+    out.text(b"(refused ");
+    put_decimal(out, n);
 }
 
-#[tactic(auto, unfolding(script_value::specs::Lines::answer_text, script_value::specs::Lines::said_text, head_driver::specs::Answers::said, script_value::specs::Lines::refusal_on, value_text::specs::Values::values_on, value_text::specs::Values::value_text, value_text::specs::Words::word_text, head_driver::specs::Answers::outcome_said, script_outcome::specs::Texts::outcome_text, text::specs::Decimals::decimal, text::specs::Decimals::decimal_on))]
-pub(crate) fn put_settled(buf: &mut [u8], at: usize, outcome: CarryOutcome) -> usize
-    requires { at + 62 ≤ length buf.old }
-    ensures wrote { Wrote buf.old buf.new at result (answer_text (Answer.Outcome (HeadOutcome.Settled outcome))) }
-    ensures upper_bound { result ≤ at + 62 }
+pub(crate) fn put_settled(out: &mut TextWriter<'_>, outcome: CarryOutcome)
+    requires { Room out.old 62 }
+    ensures { Puts out.old out.new 62 (answer_text (Answer.Outcome (HeadOutcome.Settled outcome))) }
 {
-    let i = put(buf, at, b"(settled ");
-    let j = put_outcome(buf, i, outcome);
-    put_byte(buf, j, b')')
+    out.text(b"(settled ");
+    put_outcome(out, outcome);
+    out.byte(b')');
 }
 
-#[tactic(auto, unfolding(script_value::specs::Lines::answer_text, script_value::specs::Lines::said_text, head_driver::specs::Answers::said, script_value::specs::Lines::refusal_on, value_text::specs::Values::values_on, value_text::specs::Values::value_text, value_text::specs::Words::word_text, head_driver::specs::Answers::outcome_said, value_text::specs::Texts::anchor_text, text::specs::Decimals::decimal, text::specs::Decimals::decimal_on))]
-pub(crate) fn put_superseded(buf: &mut [u8], at: usize, anchor: ReadAnchor) -> usize
-    requires { at + 100 ≤ length buf.old }
-    ensures wrote { Wrote buf.old buf.new at result (answer_text (Answer.Outcome (HeadOutcome.Superseded anchor))) }
-    ensures upper_bound { result ≤ at + 100 }
+pub(crate) fn put_superseded(out: &mut TextWriter<'_>, anchor: ReadAnchor)
+    requires { Room out.old 118 }
+    ensures { Puts out.old out.new 118 (answer_text (Answer.Outcome (HeadOutcome.Superseded anchor))) }
 {
-    let i = put(buf, at, b"(refused 11 ");
-    let j = put_anchor(buf, i, Page::Line, anchor);
-    put_byte(buf, j, b')')
+    put_refusal(out, 11);
+    out.byte(b' ');
+    put_anchor(out, Page::Line, anchor);
+    out.byte(b')');
 }
 
-#[tactic(auto, unfolding(script_value::specs::Lines::answer_text, script_value::specs::Lines::said_text, head_driver::specs::Answers::said, script_value::specs::Lines::refusal_on, value_text::specs::Values::values_on, value_text::specs::Values::value_text, value_text::specs::Words::word_text, head_driver::specs::Answers::outcome_said, value_text::specs::Texts::anchor_text, text::specs::Decimals::decimal, text::specs::Decimals::decimal_on))]
-pub(crate) fn put_foreign(buf: &mut [u8], at: usize, list: ReadAnchor, held: ReadAnchor) -> usize
-    requires { at + 188 ≤ length buf.old }
-    ensures wrote { Wrote buf.old buf.new at result (answer_text (Answer.Outcome (HeadOutcome.Foreign list held))) }
-    ensures upper_bound { result ≤ at + 188 }
+pub(crate) fn put_foreign(out: &mut TextWriter<'_>, list: ReadAnchor, held: ReadAnchor)
+    requires { Room out.old 206 }
+    ensures { Puts out.old out.new 206 (answer_text (Answer.Outcome (HeadOutcome.Foreign list held))) }
 {
-    let i = put(buf, at, b"(refused 12 ");
-    let j = put_anchor(buf, i, Page::Line, list);
-    let k = put_byte(buf, j, b' ');
-    let l = put_anchor(buf, k, Page::Line, held);
-    put_byte(buf, l, b')')
+    put_refusal(out, 12);
+    out.byte(b' ');
+    put_anchor(out, Page::Line, list);
+    out.byte(b' ');
+    put_anchor(out, Page::Line, held);
+    out.byte(b')');
 }
 
-#[tactic(auto, unfolding(script_value::specs::Lines::answer_text, script_value::specs::Lines::said_text, head_driver::specs::Answers::said, script_value::specs::Lines::refusal_on, value_text::specs::Values::values_on, value_text::specs::Values::value_text, value_text::specs::Words::word_text, head_driver::specs::Answers::outcome_said, text::specs::Decimals::decimal, text::specs::Decimals::decimal_on))]
-pub(crate) fn put_head_outcome(buf: &mut [u8], at: usize, outcome: HeadOutcome) -> usize
-    requires { at + 188 ≤ length buf.old }
-    ensures wrote { Wrote buf.old buf.new at result (answer_text (Answer.Outcome outcome)) }
-    ensures upper_bound { result ≤ at + 188 }
+pub(crate) fn put_head_outcome(out: &mut TextWriter<'_>, outcome: HeadOutcome)
+    requires { Room out.old 206 }
+    ensures { Puts out.old out.new 206 (answer_text (Answer.Outcome outcome)) }
 {
     match outcome {
-        HeadOutcome::Settled(settled) => put_settled(buf, at, settled),
-        HeadOutcome::AlreadySettled => put_refused(buf, at, 13),
-        HeadOutcome::InFlight => put_refused(buf, at, 14),
-        HeadOutcome::Superseded(anchor) => put_superseded(buf, at, anchor),
-        HeadOutcome::Foreign(list, held) => put_foreign(buf, at, list, held),
+        HeadOutcome::Settled(settled) => put_settled(out, settled),
+        HeadOutcome::AlreadySettled => put_named(out, b"(refused ", 13),
+        HeadOutcome::InFlight => put_named(out, b"(refused ", 14),
+        HeadOutcome::Superseded(anchor) => put_superseded(out, anchor),
+        HeadOutcome::Foreign(list, held) => put_foreign(out, list, held),
     }
 }

@@ -1,4 +1,6 @@
 -- Links, outcomes, reports, readiness, sources and ends are read back.
+use Rattle.std.specs.Prelude.{Option, None, Some}
+use Rattle.head_current.specs.declared.DeltaReport.{DeltaReport}
 use Prim.Native.Nat.{ℕ}
 use mathlib.Core.Bool.{false}
 use mathlib.Core.List.{List, ◌++◌, append_assoc}
@@ -23,7 +25,6 @@ use Rattle.head_anchor.specs.declared.BalSkip.{BalSkip}
 use Rattle.head_anchor.specs.declared.CarryOutcome.{CarryOutcome}
 use Rattle.head_anchor.specs.declared.Link.{Link}
 use Rattle.head_attempt.specs.declared.HeadCompletion.{HeadCompletion}
-use Rattle.head_current.specs.declared.LastReport.{LastReport}
 use Rattle.head_ready.specs.declared.HeadCold.{HeadCold}
 use Rattle.head_ready.specs.declared.HeadReadiness.{HeadReadiness}
 use Rattle.head_ready.specs.declared.Source.{Source}
@@ -33,6 +34,7 @@ use Rattle.head_anchor.specs.Ranges.{OutcomeFits, SkipFits}
 use Rattle.head_ready.specs.Ranges.{ReadinessFits}
 use Rattle.head_current.specs.Ranges.{ReportFits}
 use Rattle.script_back.proofs.Counters.{spaced_back, spaced_run}
+use Rattle.head_current.specs.Parts.{report_of}
 
 module _ (t : List ℕ) (z : run t ≡ 0) where
   -- ---- words
@@ -123,18 +125,18 @@ outcome_back (CarryOutcome.Carried n) t f = carried_back n t f
 outcome_back (CarryOutcome.Cold link skip) t f = cold_outcome link skip t f
 
 module _ (o : CarryOutcome) (n : ℕ) (t : List ℕ) where
-  made_form : report_text (LastReport.Made o n) ++ t ≡ ascii "(" ++ (outcome_text o ++ (spaced_text n ++ (ascii ")" ++ t)))
+  made_form : report_text (Some (report_of o n)) ++ t ≡ ascii "(" ++ (outcome_text o ++ (spaced_text n ++ (ascii ")" ++ t)))
   unfolding report_text report_value outcome_text value_text spaced_text
   made_form = simp append_assoc
 
-  made_back : OutcomeFits o → Fits n → read_report (at (report_text (LastReport.Made o n) ++ t)) ≡ got (LastReport.Made o n) (at t)
+  made_back : OutcomeFits o → Fits n → read_report (at (report_text (Some (report_of o n)) ++ t)) ≡ got (Some (report_of o n)) (at t)
   unfolding read_report read_made word_text after after_byte run in_word
   made_back f g = rw made_form (open_miss _ _ _ _ _ ∙ simp (outcome_back, spaced_back, f))
 
-pub report_back : (report : LastReport) (t : List ℕ) → ReportFits report → run t ≡ 0 → read_report (at (report_text report ++ t)) ≡ got report (at t)
+pub report_back : (report : Option DeltaReport) (t : List ℕ) → ReportFits report → run t ≡ 0 → read_report (at (report_text report ++ t)) ≡ got report (at t)
 unfolding read_report report_text report_value value_text word_text run in_word
-report_back LastReport.Nothing t f z = word_hit _ _ t z (ascii "none") refl
-report_back (LastReport.Made o n) t f z = made_back o n t f.0 f.1
+report_back None t f z = word_hit _ _ t z (ascii "none") refl
+report_back (Some r) t f z = made_back r.outcome r.number t f.0 f.1
 
 -- ---- readiness
 

@@ -1,5 +1,6 @@
 -- Reading links, outcomes, reports, readiness, sources and ends from the front of a text, with a failure that stays.
-use Rattle.hash.specs.Logic.{if}
+use Rattle.std.specs.Prelude.{Option, None, cond, Some}
+use Rattle.head_current.specs.declared.DeltaReport.{DeltaReport}
 use Rattle.head_anchor.specs.Words.{Word}
 use Rattle.value_text.specs.Reads.{got, map, or_word, read_skip, spaced_number, then}
 use Rattle.value_text.specs.Words.{word_text}
@@ -9,10 +10,10 @@ use Rattle.head_anchor.specs.declared.BalSkip.{BalSkip}
 use Rattle.head_anchor.specs.declared.CarryOutcome.{CarryOutcome}
 use Rattle.head_anchor.specs.declared.Link.{Link}
 use Rattle.head_attempt.specs.declared.HeadCompletion.{HeadCompletion}
-use Rattle.head_current.specs.declared.LastReport.{LastReport}
 use Rattle.head_ready.specs.declared.HeadCold.{HeadCold}
 use Rattle.head_ready.specs.declared.HeadReadiness.{HeadReadiness}
 use Rattle.head_ready.specs.declared.Source.{Source}
+use Rattle.head_current.specs.Parts.{report_of}
 
 -- ---- links
 
@@ -53,19 +54,19 @@ cold_readiness c = HeadReadiness.Cold (HeadCold.Settled c.link c.skip)
 
 unfoldable pub read_outcome : Rest → Took CarryOutcome
 read_outcome r =
-    if (says (word_text Word.carried) (after (ascii "(") r))
+    cond (says (word_text Word.carried) (after (ascii "(") r))
     (then (ascii ")") (map CarryOutcome.Carried (spaced_number (past_word (after (ascii "(") r)))))
     (map cold_outcome (read_cold r))
 
 -- `(OUTCOME REPORT)`
-unfoldable pub read_made : Rest → Took LastReport
+unfoldable pub read_made : Rest → Took (Option DeltaReport)
 read_made r =
     let o = read_outcome (after (ascii "(") r) in
     let n = spaced_number o.next in
-    got (LastReport.Made o.value n.value) (after (ascii ")") n.next)
+    got (Some (report_of o.value n.value)) (after (ascii ")") n.next)
 
-unfoldable pub read_report : Rest → Took LastReport
-read_report r = or_word (word_text Word.none) LastReport.Nothing r (read_made r)
+unfoldable pub read_report : Rest → Took (Option DeltaReport)
+read_report r = or_word (word_text Word.none) None r (read_made r)
 
 -- ---- views
 

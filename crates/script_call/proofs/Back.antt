@@ -5,6 +5,7 @@ use mathlib.Core.Path.{◌≡◌, refl, ◌∙◌}
 use mathlib.Core.List.{List, ◌++◌}
 use lib.ListN.{length}
 use borrow.Author.Tests.{ne_eqb, le-ltb}
+use Rattle.std.specs.Prelude.{Some}
 use Rattle.head_call.specs.declared.Call.{Call}
 use Rattle.text.specs.Ascii.{ascii}
 use Rattle.text.specs.Words.{in_word, run}
@@ -29,7 +30,7 @@ named w t e z h =
 short : (c : Call) → length (call_text c) ≤ 512
 short c = omega (arith, length-call c)
 
-pub call_back : (c : Call) → Writable c → call (call_text c) ≡ LineCall.Make c
+pub call_back : (c : Call) → Writable c → call (call_text c) ≡ Some (LineCall.Make c)
 unfolding call_text call_named later_named same_text run in_word after after_byte at_end ends closed spaced_ticket spaced_list deliver_call claim_call release_call apply_call snapshot_call wait_call resume_call completion_call link_call report_call stats_call heads_call
 call_back (Call.Deliver a p h) f = named (ascii "deliver") _ refl refl (short (Call.Deliver a p h)) ∙ simp (spaced_anchor_back, spaced_hash_back, spaced_number_back, f.0, f.1, f.2)
 call_back (Call.Claim ticket) f = named (ascii "claim") _ refl refl (short (Call.Claim ticket)) ∙ simp (spaced_anchor_back, spaced_number_back, f.0, f.1)
@@ -44,6 +45,6 @@ call_back Call.Report f = named (ascii "report") _ refl refl (short Call.Report)
 call_back Call.Stats f = named (ascii "stats") _ refl refl (short Call.Stats)
 call_back Call.Heads f = named (ascii "heads") _ refl refl (short Call.Heads)
 
-pub sheet_back : call sheet_call_text ≡ LineCall.Sheet
+pub sheet_back : call sheet_call_text ≡ Some LineCall.Sheet
 unfolding sheet_call_text call_named later_named same_text run in_word after after_byte at_end ends sheet_call
 sheet_back = named (ascii "sheet") (ascii ")") refl refl (omega arith)

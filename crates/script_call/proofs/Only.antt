@@ -1,14 +1,13 @@
 -- Nothing else is read: a line that writes a call is that call's own line, byte for byte. So two spaces, a missing bracket, a leading zero or a byte after the end
 -- make a line no call.
 use Prim.Native.Nat.{ℕ}
-use native.Mathlib.Omega.{arith}
 use mathlib.Core.Logic.{◌↔◌}
 use mathlib.Core.Path.{◌≡◌, refl, ◌∙◌}
 use mathlib.Core.Bool.{Bool, true, false}
 use mathlib.Core.List.{List, [], ◌∷◌, ◌++◌}
 use lib.ListN.{length}
 use lib.Dec.{eqb, ltb}
-use Rattle.hash.specs.Logic.{if}
+use Rattle.std.specs.Prelude.{Option, Some, None, cond}
 use Rattle.head_call.specs.declared.Call.{Call}
 use Rattle.text.specs.Ascii.{ascii}
 use Rattle.text.specs.Same.{same_text}
@@ -28,8 +27,8 @@ use Rattle.script_call.proofs.Ranges.{call_range}
 at_end_only : (r : Rest) → at_end r ≡ true → r ≡ at []
 unfolding at_end
 at_end_only (at []) e = refl
-at_end_only (at (b ∷ s)) e = let z : ◌≡◌ {A = ℕ} 0 1 = cc in absurd (omega arith)
-at_end_only stopped e = let z : ◌≡◌ {A = ℕ} 0 1 = cc in absurd (omega arith)
+at_end_only (at (b ∷ s)) e = cc
+at_end_only stopped e = cc
 
 ends_only : (r : Rest) → ends r ≡ true → r ≡ at (ascii ")")
 unfolding ends
@@ -43,17 +42,17 @@ record Stood (w : List ℕ) (r : Rest) (s : List ℕ) : Type 0 where
   text : ascii "(" ++ (w ++ rest) ≡ s
 
 -- they are the own line of what was asked for
-abbrev Own : List ℕ → Rest → LineCall → Type 0
-Own w r LineCall.NoCall = Unit {0}
-Own w r LineCall.Sheet = Stood w r sheet_call_text
-Own w r (LineCall.Make c) = Stood w r (call_text c)
+abbrev Own : List ℕ → Rest → Option LineCall → Type 0
+Own w r None = Unit {0}
+Own w r (Some LineCall.Sheet) = Stood w r sheet_call_text
+Own w r (Some (LineCall.Make c)) = Stood w r (call_text c)
 
 module _ (r : Rest) where
   closed_own : (w : List ℕ) (s : Rest) (c : Call) → (s ≡ at (ascii ")") → Stood w r (call_text c)) → Own w r (closed s c)
   unfolding closed
   closed_own w s c f = go (ends s) refl
     where
-      go : (b : Bool) → ends s ≡ b → Own w r (if b (LineCall.Make c) LineCall.NoCall)
+      go : (b : Bool) → ends s ≡ b → Own w r (cond b (Some (LineCall.Make c)) None)
       go true e = f (ends_only s e)
       go false e = tt
 
@@ -114,7 +113,7 @@ module _ (r : Rest) where
   unfolding sheet_call sheet_call_text
   sheet_own = go (ends r) refl
     where
-      go : (b : Bool) → ends r ≡ b → Own (ascii "sheet") r (if b LineCall.Sheet LineCall.NoCall)
+      go : (b : Bool) → ends r ≡ b → Own (ascii "sheet") r (cond b (Some LineCall.Sheet) None)
       go true e = record { rest = _; is = ends_only r e; text = refl }
       go false e = tt
 
@@ -122,10 +121,10 @@ module _ (r : Rest) where
 
   module _ (w : List ℕ) where
     -- the word is k and names x, or it is not and names y
-    by_name : (k : List ℕ) (x y : LineCall) → Own k r x → Own w r y → Own w r (if (same_text w k) x y)
+    by_name : (k : List ℕ) (x y : Option LineCall) → Own k r x → Own w r y → Own w r (cond (same_text w k) x y)
     by_name k x y f g = go (same_text w k) refl
       where
-        go : (b : Bool) → same_text w k ≡ b → Own w r (if b x y)
+        go : (b : Bool) → same_text w k ≡ b → Own w r (cond b x y)
         go true e = rw (same_eq w k e) f
         go false e = g
 
@@ -137,7 +136,7 @@ module _ (r : Rest) where
         (by_name (ascii "report") _ _ report_own
         (by_name (ascii "stats") _ _ stats_own
         (by_name (ascii "heads") _ _ heads_own
-        (by_name (ascii "sheet") _ LineCall.NoCall sheet_own
+        (by_name (ascii "sheet") _ None sheet_own
         tt)))))
 
     named_own : Own w r (call_named w r)
@@ -155,10 +154,10 @@ module _ (r : Rest) where
 -- ---- lines
 
 -- the line is the own line of what it asks for
-abbrev OwnLine : List ℕ → LineCall → Type 0
-OwnLine l LineCall.NoCall = Unit {0}
-OwnLine l LineCall.Sheet = l ≡ sheet_call_text
-OwnLine l (LineCall.Make c) = l ≡ call_text c
+abbrev OwnLine : List ℕ → Option LineCall → Type 0
+OwnLine l None = Unit {0}
+OwnLine l (Some LineCall.Sheet) = l ≡ sheet_call_text
+OwnLine l (Some (LineCall.Make c)) = l ≡ call_text c
 
 whole : (l s : List ℕ) → Stood (word_here (after (ascii "(") (at l))) (past_word (after (ascii "(") (at l))) s → l ≡ s
 whole l s k =
@@ -166,25 +165,25 @@ whole l s k =
     let y : l ≡ ascii "(" ++ (word_here (after (ascii "(") (at l)) ++ k.rest) = cc in
     y ∙ k.text
 
-line_own : (l : List ℕ) (q : LineCall) → Own (word_here (after (ascii "(") (at l))) (past_word (after (ascii "(") (at l))) q → OwnLine l q
-line_own l LineCall.NoCall k = tt
-line_own l LineCall.Sheet k = whole l sheet_call_text k
-line_own l (LineCall.Make c) k = whole l (call_text c) k
+line_own : (l : List ℕ) (q : Option LineCall) → Own (word_here (after (ascii "(") (at l))) (past_word (after (ascii "(") (at l))) q → OwnLine l q
+line_own l None k = tt
+line_own l (Some LineCall.Sheet) k = whole l sheet_call_text k
+line_own l (Some (LineCall.Make c)) k = whole l (call_text c) k
 
 call_own : (l : List ℕ) → OwnLine l (call l)
 unfolding call call_here
 call_own l =
     let r = after (ascii "(") (at l) in
-    chosen (OwnLine l) (eqb (length l) 0) LineCall.NoCall _ tt
-    (chosen (OwnLine l) (ltb 512 (length l)) LineCall.NoCall _ tt
+    chosen (OwnLine l) (eqb (length l) 0) None _ tt
+    (chosen (OwnLine l) (ltb 512 (length l)) None _ tt
     (line_own l (call_here r) (named_own (past_word r) (word_here r))))
 
-pub call_only : (l : List ℕ) (c : Call) → call l ≡ LineCall.Make c → l ≡ call_text c
+pub call_only : (l : List ℕ) (c : Call) → call l ≡ Some (LineCall.Make c) → l ≡ call_text c
 call_only l c e = rw e at (call_own l)
 
 -- a line writes a call exactly when it is that call's own line, and the call one that a line can write
-pub call_exactly : (l : List ℕ) (c : Call) → (call l ≡ LineCall.Make c) ↔ ((l ≡ call_text c) × Writable c)
+pub call_exactly : (l : List ℕ) (c : Call) → (call l ≡ Some (LineCall.Make c)) ↔ ((l ≡ call_text c) × Writable c)
 call_exactly l c = (λ e. (call_only l c e, rw e at (call_range l)), λ h. rw h.0 (call_back c h.1))
 
-pub sheet_only : (l : List ℕ) → call l ≡ LineCall.Sheet → l ≡ sheet_call_text
+pub sheet_only : (l : List ℕ) → call l ≡ Some LineCall.Sheet → l ≡ sheet_call_text
 sheet_only l e = rw e at (call_own l)

@@ -4,7 +4,7 @@ use mathlib.Core.Bool.{Bool}
 use mathlib.Core.List.{List}
 use lib.ListN.{length}
 use lib.Dec.{eqb, ltb}
-use Rattle.hash.specs.Logic.{if}
+use Rattle.std.specs.Prelude.{Option, cond}
 use Rattle.head_call.specs.declared.Call.{Call}
 use Rattle.text.specs.Ascii.{ascii}
 use Rattle.text.specs.Same.{same_text}
@@ -15,7 +15,7 @@ use Rattle.head_call.specs.Ranges.{Writable}
 use Rattle.script_call.specs.Ranges.{LineWritable}
 use Rattle.script_call.specs.declared.LineCall.{LineCall}
 
-either : (b : Bool) (x y : LineCall) → LineWritable x → LineWritable y → LineWritable (if b x y)
+either : (b : Bool) (x y : Option LineCall) → LineWritable x → LineWritable y → LineWritable (cond b x y)
 either = chosen LineWritable
 
 closed_range : (r : Rest) (c : Call) → Writable c → LineWritable (closed r c)

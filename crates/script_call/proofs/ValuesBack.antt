@@ -1,10 +1,10 @@
 -- What is written is read back, whatever follows that parts it from the next word.
+use Rattle.std.specs.Prelude.{Option}
 use Prim.Native.Nat.{ℕ}
 use mathlib.Core.Path.{◌≡◌}
 use mathlib.Core.List.{List, ◌++◌}
 use Rattle.hash.specs.declared.Hash.{Hash}
 use Rattle.head_anchor.specs.declared.BalSkip.{BalSkip}
-use Rattle.head_anchor.specs.declared.AnchorSlot.{AnchorSlot}
 use Rattle.head_anchor.specs.declared.ReadAnchor.{ReadAnchor}
 use Rattle.text.specs.Ascii.{ascii}
 use Rattle.text.specs.Words.{run}
@@ -26,7 +26,7 @@ pub spaced_anchor_back : (a : ReadAnchor) (t : List ℕ) → AnchorFits a → sp
 unfolding spaced_anchor after after_byte
 spaced_anchor_back a t f = anchor_back Page.Line a t f
 
-pub spaced_slot_back : (s : AnchorSlot) (t : List ℕ) → SlotFits s → run t ≡ 0 → spaced_slot (at (ascii " " ++ (slot_text Page.Line s ++ t))) ≡ record { value = s; next = at t }
+pub spaced_slot_back : (s : Option ReadAnchor) (t : List ℕ) → SlotFits s → run t ≡ 0 → spaced_slot (at (ascii " " ++ (slot_text Page.Line s ++ t))) ≡ record { value = s; next = at t }
 unfolding spaced_slot after after_byte
 spaced_slot_back s t f z = slot_back Page.Line s t f z
 

@@ -7,17 +7,16 @@ use mathlib.Core.List.{List, [], ◌∷◌, ◌++◌, append_assoc}
 use lib.ListN.{length, take, drop, length-take, take-append-drop}
 use lib.Dec.{eqb, leb}
 use borrow.Author.Tests.{eqb-true}
-use Rattle.hash.specs.Logic.{if}
+use Rattle.std.specs.Prelude.{Option, Some, None, cond}
+use Rattle.hash.specs.declared.Hash.{Hash}
 use Rattle.text.specs.Ascii.{ascii}
 use Rattle.text.specs.Words.{in_word, run, word}
 use Rattle.text.specs.Decimals.{decimal, number}
 use Rattle.text.specs.Rests.{Rest, at, stopped, Took, after_byte, after, word_here, says, past, past_word, number_got, read_number}
-use Rattle.text.specs.declared.decimal.Number.{Number}
 use Rattle.text.proofs.Only.{number_only}
 use Rattle.text.proofs.Same.{same_eq}
 use Rattle.hash_text.specs.LineHashes.{line_hash_text, line_hash}
 use Rattle.hash_text.specs.Reads.{hash_got, read_hash}
-use Rattle.hash_text.specs.declared.HashWord.{HashWord}
 use Rattle.hash_text.proofs.Only.{line_hash_only}
 use Rattle.script_call.specs.Values.{spaced_hash, spaced_anchor, spaced_slot, spaced_skip}
 use Rattle.value_text.specs.Reads.{or_word, map, then, hash_said, block_hash_got, read_block_hash, read_anchor, read_slot, spaced_number, read_failure, read_skip}
@@ -26,19 +25,18 @@ use Rattle.value_text.specs.Values.{hash_text, value_text}
 use Rattle.value_text.specs.Words.{word_text}
 use Rattle.head_anchor.specs.Values.{anchor_value, block_hash_value, skip_value, slot_value}
 use Rattle.value_text.specs.declared.page.Page.{Page}
-use Rattle.value_text.proofs.Back.{went_on}
 
 -- ---- given texts
 
 byte_only : (b : ℕ) (r : Rest) (t : List ℕ) → after_byte b r ≡ at t → r ≡ at (b ∷ t)
 unfolding after_byte
-byte_only b stopped t e = absurd (went_on t e)
-byte_only b (at []) t e = absurd (went_on t e)
+byte_only b stopped t e = cc
+byte_only b (at []) t e = cc
 byte_only b (at (c ∷ s)) t e = go (eqb c b) refl e
   where
-    go : (x : Bool) → eqb c b ≡ x → if x (at s) stopped ≡ at t → at (c ∷ s) ≡ at (b ∷ t)
+    go : (x : Bool) → eqb c b ≡ x → cond x (at s) stopped ≡ at t → at (c ∷ s) ≡ at (b ∷ t)
     go true f g = let z : s ≡ t = cc in rw (eqb-true c b f, z)
-    go false f g = absurd (went_on t g)
+    go false f g = cc
 
 pub after_only : (k : List ℕ) (r : Rest) (t : List ℕ) → after k r ≡ at t → r ≡ at (k ++ t)
 unfolding after
@@ -52,21 +50,21 @@ unfolding run
 run_within [] = omega arith
 run_within (b ∷ s) = go (in_word b) (run_within s)
   where
-    go : (x : Bool) → run s ≤ length s → if x (suc (run s)) 0 ≤ suc (length s)
+    go : (x : Bool) → run s ≤ length s → cond x (suc (run s)) 0 ≤ suc (length s)
     go true h = omega arith
     go false h = omega arith
 
 pub past_only : (r : Rest) (t : List ℕ) → past_word r ≡ at t → r ≡ at (word_here r ++ t)
 unfolding past_word past word_here word
-past_only stopped t e = absurd (went_on t e)
+past_only stopped t e = cc
 past_only (at s) t e = go (leb (length (take (run s) s)) (length s)) e
   where
-    go : (x : Bool) → if x (at (drop (length (take (run s) s)) s)) stopped ≡ at t → at s ≡ at (take (run s) s ++ t)
+    go : (x : Bool) → cond x (at (drop (length (take (run s) s)) s)) stopped ≡ at t → at s ≡ at (take (run s) s ++ t)
     go true f =
         let n : length (take (run s) s) ≡ run s = length-take (run s) s ∙ omega (arith, run_within s) in
         let z : drop (run s) s ≡ t = cc (rw n at f) in
         ap at (sym (take-append-drop (run s) s) ∙ rw z)
-    go false f = absurd (went_on t f)
+    go false f = cc
 
 -- a keyword that was passed
 pub says_only : (k : List ℕ) (r : Rest) (t : List ℕ) → says k r ≡ true → past_word r ≡ at t → r ≡ at (k ++ t)
@@ -79,17 +77,17 @@ pub number_read : (r : Rest) (t : List ℕ) → (read_number r).next ≡ at t �
 unfolding read_number number_got
 number_read r t e = go (number (word_here r)) refl e
   where
-    go : (m : Number) → number (word_here r) ≡ m → (number_got m (past_word r)).next ≡ at t → r ≡ at (decimal (number_got m (past_word r)).value ++ t)
-    go (Number.Value n) f g = rw (number_only (word_here r) n f).0 at (past_only r t g)
-    go Number.Bad f g = absurd (went_on t g)
+    go : (m : Option ℕ) → number (word_here r) ≡ m → (number_got m (past_word r)).next ≡ at t → r ≡ at (decimal (number_got m (past_word r)).value ++ t)
+    go (Some n) f g = rw (number_only (word_here r) n f).0 at (past_only r t g)
+    go None f g = cc
 
 pub hash_read : (r : Rest) (t : List ℕ) → (read_hash r).next ≡ at t → r ≡ at (line_hash_text (read_hash r).value ++ t)
 unfolding read_hash hash_got
 hash_read r t e = go (line_hash (word_here r)) refl e
   where
-    go : (m : HashWord) → line_hash (word_here r) ≡ m → (hash_got m (past_word r)).next ≡ at t → r ≡ at (line_hash_text (hash_got m (past_word r)).value ++ t)
-    go (HashWord.Value h) f g = rw (line_hash_only (word_here r) h f).0 at (past_only r t g)
-    go HashWord.Bad f g = absurd (went_on t g)
+    go : (m : Option Hash) → line_hash (word_here r) ≡ m → (hash_got m (past_word r)).next ≡ at t → r ≡ at (line_hash_text (hash_got m (past_word r)).value ++ t)
+    go (Some h) f g = rw (line_hash_only (word_here r) h f).0 at (past_only r t g)
+    go None f g = cc
 
 -- ---- a choice by a keyword
 
@@ -98,16 +96,16 @@ module _ {A : Type 0} (text : A → List ℕ) (r : Rest) (t : List ℕ) where
   abbrev Stood : Took A → Type 0
   Stood k = k.next ≡ at t → r ≡ at (text k.value ++ t)
 
-  chosen_only : (b : Bool) (x y : Took A) → (b ≡ true → Stood x) → Stood y → Stood (if b x y)
+  chosen_only : (b : Bool) (x y : Took A) → (b ≡ true → Stood x) → Stood y → Stood (cond b x y)
   chosen_only true x y f g = f refl
   chosen_only false x y f g = g
 
 -- ---- anchors
 
-got_only : (r : Rest) (t : List ℕ) (m : HashWord) → line_hash (word_here r) ≡ m → (block_hash_got m (past_word r)).next ≡ at t → r ≡ at (block_hash_text Page.Line (block_hash_got m (past_word r)).value ++ t)
+got_only : (r : Rest) (t : List ℕ) (m : Option Hash) → line_hash (word_here r) ≡ m → (block_hash_got m (past_word r)).next ≡ at t → r ≡ at (block_hash_text Page.Line (block_hash_got m (past_word r)).value ++ t)
 unfolding block_hash_got block_hash_text value_text word_text hash_text block_hash_value
-got_only r t (HashWord.Value h) f g = rw (line_hash_only (word_here r) h f).0 at (past_only r t g)
-got_only r t HashWord.Bad f g = absurd (went_on t g)
+got_only r t (Some h) f g = rw (line_hash_only (word_here r) h f).0 at (past_only r t g)
+got_only r t None f g = cc
 
 block_hash_read : (r : Rest) (t : List ℕ) → (read_block_hash Page.Line r).next ≡ at t → r ≡ at (block_hash_text Page.Line (read_block_hash Page.Line r).value ++ t)
 unfolding read_block_hash or_word hash_said block_hash_text value_text word_text hash_text block_hash_value
@@ -142,7 +140,7 @@ failure_read r t =
     (λ f g. after_only (ascii "(") r _ (says_only (ascii "rpc") s _ f (spaced_number_only _ _ (after_only (ascii ")") _ t g))) ∙ simp append_assoc)
     (chosen_only skip_text r t (says (ascii "decode") s) _ _
     (λ f g. after_only (ascii "(") r _ (says_only (ascii "decode") s _ f (spaced_number_only _ _ (after_only (ascii ")") _ t g))) ∙ simp append_assoc)
-    (λ g. absurd (went_on t g)))
+    (λ g. cc))
 
 skip_read : (r : Rest) (t : List ℕ) → (read_skip r).next ≡ at t → r ≡ at (skip_text (read_skip r).value ++ t)
 unfolding read_skip or_word skip_text value_text word_text skip_value

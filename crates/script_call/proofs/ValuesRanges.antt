@@ -1,17 +1,15 @@
 -- What is read from a line is below 2^64, whatever the line.
+use Rattle.head_anchor.specs.declared.ReadAnchor.{ReadAnchor}
 use mathlib.Core.Path.{◌≡◌, refl}
 use mathlib.Core.Bool.{Bool, true, false}
-use Rattle.hash.specs.Logic.{if}
+use Rattle.std.specs.Prelude.{Option, Some, None, cond}
 use Rattle.hash.specs.declared.Hash.{Hash}
 use Rattle.head_anchor.specs.declared.BalSkip.{BalSkip}
-use Rattle.head_anchor.specs.declared.AnchorSlot.{AnchorSlot}
-use Rattle.head_anchor.specs.declared.BlockHash.{BlockHash}
 use Rattle.text.specs.Ascii.{ascii}
 use Rattle.text.specs.Rests.{Rest, Took, word_here, says, past_word}
 use Rattle.text.proofs.Only.{number_range}
 use Rattle.hash_text.specs.LineHashes.{line_hash}
 use Rattle.hash.specs.Ranges.{HashFits, Fits}
-use Rattle.hash_text.specs.declared.HashWord.{HashWord}
 use Rattle.hash_text.proofs.Only.{line_hash_only, hash_range}
 use Rattle.value_text.specs.Reads.{or_word, map, then, hash_said, block_hash_got, read_block_hash, read_anchor, read_slot, spaced_number, read_failure, read_skip}
 use Rattle.value_text.specs.Words.{word_text}
@@ -20,21 +18,21 @@ use Rattle.script_call.specs.Values.{spaced_hash, spaced_anchor, spaced_slot, sp
 use Rattle.head_anchor.specs.Ranges.{BlockHashFits, AnchorFits, SlotFits, SkipFits}
 
 -- what holds of both sides of a choice holds of what is chosen
-pub chosen : {A : Type 0} (P : A → Type 0) (b : Bool) (x y : A) → P x → P y → P (if b x y)
+pub chosen : {A : Type 0} (P : A → Type 0) (b : Bool) (x y : A) → P x → P y → P (cond b x y)
 chosen P true x y p q = p
 chosen P false x y p q = q
 
 -- ---- anchors
 
-got_range : (m : HashWord) (r : Rest) → ((h : Hash) → m ≡ HashWord.Value h → HashFits h) → BlockHashFits (block_hash_got m r).value
+got_range : (m : Option Hash) (r : Rest) → ((h : Hash) → m ≡ Some h → HashFits h) → BlockHashFits (block_hash_got m r).value
 unfolding block_hash_got
-got_range (HashWord.Value h) r f = f h refl
-got_range HashWord.Bad r f = tt
+got_range (Some h) r f = f h refl
+got_range None r f = tt
 
 pub block_hash_range : (r : Rest) → BlockHashFits (read_block_hash Page.Line r).value
 unfolding read_block_hash or_word word_text hash_said
 block_hash_range r =
-    chosen (λ (k : Took BlockHash). BlockHashFits k.value) (says (ascii "none") r) _ _ tt
+    chosen (λ (k : Took (Option Hash)). BlockHashFits k.value) (says (ascii "none") r) _ _ tt
     (got_range (line_hash (word_here r)) (past_word r) (λ h e. (line_hash_only (word_here r) h e).1))
 
 pub anchor_range : (r : Rest) → AnchorFits (read_anchor Page.Line r).value
@@ -43,7 +41,7 @@ anchor_range r = record { number = number_range _; hash = block_hash_range _ }
 
 pub slot_range : (r : Rest) → SlotFits (read_slot Page.Line r).value
 unfolding read_slot or_word word_text map
-slot_range r = chosen (λ (k : Took AnchorSlot). SlotFits k.value) (says (ascii "none") r) _ _ tt (anchor_range r)
+slot_range r = chosen (λ (k : Took (Option ReadAnchor)). SlotFits k.value) (says (ascii "none") r) _ _ tt (anchor_range r)
 
 -- ---- skips
 

@@ -1,68 +1,39 @@
 // Skips on a line.
+ghost use Rattle.line_reader.specs.Reads.{rest, Reads};
 ghost use Rattle.script_call.specs.Values.{spaced_skip};
-ghost use Rattle.text.specs.Places.{here, Reads};
 ghost use Rattle.value_text.specs.Reads.{read_failure};
 
-use crate::spaced::{is_none, spaced_number};
+use crate::spaced::spaced_number;
 use head_anchor::BalSkip;
-use line_word::word_from;
-use text::place::Place;
-use text_place::{past, past_byte};
-use text_same::same;
-
-// A skip and the place after it; none where reading has stopped.
-#[derive(Clone, Copy)]
-pub struct SkipFrom {
-    pub value: BalSkip,
-    pub next: Place,
-}
+use line_reader::LineReader;
 
 // `rpc N)` or `decode N)`: what follows the bracket of a skip that holds a number.
-#[tactic(auto, using(crate::proofs::ValuesPlaces::failure_rpc, crate::proofs::ValuesPlaces::failure_decode, crate::proofs::ValuesPlaces::failure_none))]
-pub(crate) fn take_failure(line: &[u8], from: Place) -> SkipFrom
-    ensures { Reads line.now result.value result.next (read_failure (here line.now from)) }
+#[tactic(auto, using(crate::proofs::Stopped::byte_stopped, crate::proofs::Keywords::same_bytes, crate::proofs::Keywords::other_length, crate::proofs::Keywords::other_byte), unfolding(value_text::specs::Reads::read_failure, value_text::specs::Reads::map, value_text::specs::Reads::then, text::specs::Rests::says, value_text::specs::Words::word_text))]
+pub(crate) fn take_failure(r: &mut LineReader<'_>) -> Option<BalSkip>
+    ensures { Reads r.old r.new result (read_failure (rest r.old)) }
 {
-    let word = word_from(line, from);
-    let n = spaced_number(line, past(line, from, word.len()));
-    let i = n.next;
-    let next = past_byte(line, i, b')');
-    if same(word, b"rpc") {
-        return SkipFrom {
-            value: BalSkip::Rpc(n.value),
-            next,
-        };
-    }
-    if same(word, b"decode") {
-        return SkipFrom {
-            value: BalSkip::Decode(n.value),
-            next,
-        };
-    }
-    SkipFrom {
-        value: BalSkip::Nothing,
-        next: Place::Stopped,
+    let word = r.take_word();
+    let n = spaced_number(r)?;
+    r.past_byte(b')')?;
+    match word {
+        b"rpc" => Some(BalSkip::Rpc(n)),
+        b"decode" => Some(BalSkip::Decode(n)),
+        _ => None,
     }
 }
 
 // `none`, `no-hash`, `(rpc N)` or `(decode N)`, after one space.
-#[tactic(auto, using(crate::proofs::ValuesPlaces::skip_none, crate::proofs::ValuesPlaces::skip_no_hash, crate::proofs::ValuesPlaces::skip_failure))]
-pub(crate) fn spaced_skip(line: &[u8], from: Place) -> SkipFrom
-    ensures { Reads line.now result.value result.next (spaced_skip (here line.now from)) }
+#[tactic(auto, using(crate::proofs::Stopped::skip_stopped, crate::proofs::Stopped::failure_stopped), unfolding(crate::specs::Values::spaced_skip, value_text::specs::Reads::read_skip, value_text::specs::Reads::or_word, value_text::specs::Words::word_text))]
+pub(crate) fn spaced_skip(r: &mut LineReader<'_>) -> Option<BalSkip>
+    ensures { Reads r.old r.new result (spaced_skip (rest r.old)) }
 {
-    let i = past_byte(line, from, b' ');
-    let word = word_from(line, i);
-    let next = past(line, i, word.len());
-    if is_none(word) {
-        return SkipFrom {
-            value: BalSkip::Nothing,
-            next,
-        };
+    r.past_byte(b' ')?;
+    if r.past_keyword(b"none") {
+        return Some(BalSkip::Nothing);
     }
-    if same(word, b"no-hash") {
-        return SkipFrom {
-            value: BalSkip::NoHash,
-            next,
-        };
+    if r.past_keyword(b"no-hash") {
+        return Some(BalSkip::NoHash);
     }
-    take_failure(line, past_byte(line, i, b'('))
+    r.past_byte(b'(')?;
+    take_failure(r)
 }

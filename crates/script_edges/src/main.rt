@@ -3,7 +3,7 @@
 // Knows nothing of how answers come about.
 #![tactic(auto)]
 
-ghost use Rattle.std.specs.Prelude.{◌<◌, ◌≤◌, ◌≡◌, get_or, length};
+ghost use Rattle.std.specs.Prelude.{◌≤◌, ◌≡◌, length};
 ghost use Rattle.script.specs.Feeds.{reading};
 ghost use Rattle.script_edges.specs.Plays.{AsksSheet, Plays, TakesByte, afresh, sheet_left};
 
@@ -11,7 +11,6 @@ use driver::{LineAnswer, put_line, take_line};
 use head_driver::Driver;
 use head_new::head_lifecycle::new;
 use script::{Fed, feed, finish};
-use script_value::buffer::Written;
 use std::io::{self, Read, Write};
 
 fn afresh() -> Fed
@@ -27,27 +26,18 @@ fn afresh() -> Fed
 
 // The first n bytes of a buffer; nothing where it has fewer.
 fn show(rt: &impl Print, buf: &[u8], n: usize) {
-    if n <= buf.len() {
-        let _ = io::writer(rt).write_all(&buf[..n]);
+    if let Some(front) = buf.get(..n) {
+        let _ = io::writer(rt).write_all(front);
     }
 }
 
 // The answers of one byte: none, or those of the line that it ends.
 #[tactic(auto, using(crate::proofs::Played::takes_byte))]
-fn play_byte(
-    rt: &impl Print,
-    d: Driver,
-    pending: &mut [u8],
-    held: usize,
-    input: &[u8],
-    at: usize,
-) -> Fed
-    requires { at < length input.now }
-    ensures { TakesByte (reading d pending.old held) (reading result.driver pending.new result.held) (get_or input.now at 0) result.taken }
+fn play_byte(rt: &impl Print, d: Driver, pending: &mut [u8], held: usize, byte: u8) -> Fed
+    ensures { TakesByte (reading d pending.old held) (reading result.driver pending.new result.held) byte result.taken }
 {
     let mut out = [0u8; 4096];
-    let end = at + 1;
-    let fed = feed(d, pending, held, &input[at..end], &mut out);
+    let fed = feed(d, pending, held, &[byte], &mut out);
     show(rt, &out, fed.written);
     fed
 }
@@ -62,30 +52,27 @@ fn end_script(rt: &impl Print, d: Driver, pending: &[u8], held: usize) {
 
 // The next byte: a mark, after which the next script begins, or a byte of the script.
 #[tactic(auto, using(crate::proofs::Played::marked, crate::proofs::Played::unmarked))]
-fn next(rt: &impl Print, fed: Fed, pending: &mut [u8], input: &[u8], at: usize) -> Fed
-    requires { at < length input.now }
-    ensures { Plays (reading fed.driver pending.old fed.held) (reading result.driver pending.new result.held) (get_or input.now at 0) result }
+fn next(rt: &impl Print, fed: Fed, pending: &mut [u8], byte: u8) -> Fed
+    ensures { Plays (reading fed.driver pending.old fed.held) (reading result.driver pending.new result.held) byte result }
 {
-    if input[at] == b'%' {
+    if byte == b'%' {
         end_script(rt, fed.driver, pending, fed.held);
         return afresh();
     }
-    play_byte(rt, fed.driver, pending, fed.held, input, at)
+    play_byte(rt, fed.driver, pending, fed.held, byte)
 }
 
 fn play(rt: &impl Print, input: &[u8]) {
     let mut pending = [0u8; 513];
     let mut fed = afresh();
-    let mut i = 0;
-    while i < input.len() {
-        fed = next(rt, fed, &mut pending, input, i);
-        i += 1;
+    for byte in input {
+        fed = next(rt, fed, &mut pending, *byte);
     }
 }
 
 fn show_line(rt: &impl Print, answer: LineAnswer) {
     let mut out = [0u8; 4096];
-    if let Written::Bytes(n) = put_line(&mut out, answer) {
+    if let Some(n) = put_line(&mut out, answer) {
         show(rt, &out, n);
     }
 }
@@ -114,6 +101,7 @@ fn read_full<R: Read>(reader: &mut R, buf: &mut [u8]) -> usize
     ensures { result ≤ length buf.new }
 {
     let mut done = 0;
+    // Not a `for`: a turn takes what a read brought.
     while done < buf.len() {
         let n = reader.read(&mut buf[done..]).unwrap_or(0);
         if n == 0 {

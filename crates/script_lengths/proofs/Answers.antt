@@ -1,4 +1,6 @@
 -- How long an answer's line can be.
+use Rattle.std.specs.Prelude.{Option}
+use Rattle.head_current.specs.declared.DeltaReport.{DeltaReport}
 use Prim.Native.Nat.{ℕ, ◌≤◌}
 use native.Mathlib.Omega.{arith}
 use mathlib.Core.List.{◌++◌}
@@ -17,11 +19,9 @@ use Rattle.text.specs.Ascii.{ascii}
 use Rattle.text.specs.Decimals.{decimal, decimal_on}
 use Rattle.head_anchor.specs.declared.CarryOutcome.{CarryOutcome}
 use Rattle.head_anchor.specs.declared.Link.{Link}
-use Rattle.head_anchor.specs.declared.AnchorSlot.{AnchorSlot}
 use Rattle.head_anchor.specs.declared.ReadAnchor.{ReadAnchor}
 use Rattle.head_attempt.specs.declared.HeadCompletion.{HeadCompletion}
 use Rattle.head_count.specs.declared.HeadStats.{HeadStats}
-use Rattle.head_current.specs.declared.LastReport.{LastReport}
 use Rattle.head_driver.specs.declared.Answer.{Answer}
 use Rattle.head_ready.specs.declared.HeadOutcome.{HeadOutcome}
 use Rattle.head_ready.specs.declared.HeadView.{HeadView}
@@ -48,7 +48,7 @@ link_form : (k : Link) → answer_text (Answer.Link k) ≡ ascii "(link " ++ (li
 unfolding answer_text said_text said refusal_on values_on value_text word_text link_text
 link_form k = refl
 
-report_form : (r : LastReport) → answer_text (Answer.Report r) ≡ ascii "(report " ++ (report_text r ++ ascii ")")
+report_form : (r : Option DeltaReport) → answer_text (Answer.Report r) ≡ ascii "(report " ++ (report_text r ++ ascii ")")
 unfolding answer_text said_text said refusal_on values_on value_text word_text report_text
 report_form r = refl
 
@@ -56,7 +56,7 @@ stats_form : (s : HeadStats) → answer_text (Answer.Stats s) ≡ ascii "(stats"
 unfolding answer_text said_text said refusal_on word_text stats_text
 stats_form s = rw values_then
 
-heads_form : (c i p : AnchorSlot) → answer_text (Answer.Heads c i p) ≡ ascii "(heads " ++ (slot_text Page.Line c ++ (ascii " " ++ (slot_text Page.Line i ++ (ascii " " ++ (slot_text Page.Line p ++ ascii ")")))))
+heads_form : (c i p : Option ReadAnchor) → answer_text (Answer.Heads c i p) ≡ ascii "(heads " ++ (slot_text Page.Line c ++ (ascii " " ++ (slot_text Page.Line i ++ (ascii " " ++ (slot_text Page.Line p ++ ascii ")")))))
 unfolding answer_text said_text said refusal_on values_on value_text word_text slot_text
 heads_form c i p = refl
 
@@ -114,13 +114,13 @@ completion_short e = rw (completion_form e) (simp length-append (omega (arith, e
 link_short : (k : Link) → Short (Answer.Link k)
 link_short k = rw (link_form k) (simp length-append (omega (arith, link_most k)))
 
-report_short : (r : LastReport) → Short (Answer.Report r)
+report_short : (r : Option DeltaReport) → Short (Answer.Report r)
 report_short r = rw (report_form r) (simp length-append (omega (arith, report_most r)))
 
 stats_short : (s : HeadStats) → Short (Answer.Stats s)
 stats_short s = rw (stats_form s) (simp length-append (omega (arith, stats_most s)))
 
-heads_short : (c i p : AnchorSlot) → Short (Answer.Heads c i p)
+heads_short : (c i p : Option ReadAnchor) → Short (Answer.Heads c i p)
 heads_short c i p = rw (heads_form c i p) (simp length-append (omega (arith, slot_most Page.Line c, slot_most Page.Line i, slot_most Page.Line p)))
 
 text_short : (a : Answer) → Short a

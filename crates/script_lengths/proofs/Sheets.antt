@@ -1,4 +1,6 @@
 -- How long a sheet can be.
+use Rattle.std.specs.Prelude.{Option, None, Some}
+use Rattle.head_ready.specs.declared.Generation.{Generation}
 use Prim.Native.Nat.{ℕ, zero, suc, ◌+◌, ◌≤◌}
 use native.Mathlib.Omega.{arith}
 use mathlib.Core.List.{List, [], ◌∷◌}
@@ -17,7 +19,6 @@ use Rattle.head_attempt.specs.declared.WaiterSlot.{WaiterSlot}
 use Rattle.head_current.specs.declared.CurrentHead.{CurrentHead}
 use Rattle.head_current.specs.declared.HeadDelivery.{HeadDelivery}
 use Rattle.head_current.specs.declared.UnsettledHead.{UnsettledHead}
-use Rattle.head_ready.specs.declared.GenerationSlot.{GenerationSlot}
 use Rattle.head_life.specs.declared.HeadLifecycle.{HeadLifecycle}
 use Rattle.value_text.specs.declared.page.Page.{Page}
 use Rattle.script_lengths.specs.Statements.{SheetLength, SheetRoom}
@@ -50,10 +51,10 @@ current_most (CurrentHead.Unclaimed u) = simp length-append (omega (arith, unset
 current_most (CurrentHead.Preparing u) = simp length-append (omega (arith, unsettled_most u))
 current_most (CurrentHead.Settled s) = simp length-append (omega (arith, delivery_most s.delivery, report_most s.report))
 
-generation_most : (g : GenerationSlot) → length (generation_text g) ≤ 161
+generation_most : (g : Option Generation) → length (generation_text g) ≤ 161
 unfolding generation_text
-generation_most GenerationSlot.Nothing = omega arith
-generation_most (GenerationSlot.Held g) = simp length-append (omega (arith, anchor_most Page.Sheet g.anchor, spaced_most g.handle, readiness_most g.readiness))
+generation_most None = omega arith
+generation_most (Some g) = simp length-append (omega (arith, anchor_most Page.Sheet g.anchor, spaced_most g.handle, readiness_most g.readiness))
 
 life_most : (l : HeadLifecycle) → length (life_lines l) ≤ 892
 unfolding life_lines superseded_line installed_line previous_line

@@ -1,4 +1,6 @@
 -- How long the text of a value of answers and sheets can be.
+use Rattle.std.specs.Prelude.{Option, None, Some}
+use Rattle.head_current.specs.declared.DeltaReport.{DeltaReport}
 use Prim.Native.Nat.{ℕ, ◌≤◌}
 use native.Mathlib.Omega.{arith}
 use mathlib.Core.List.{◌++◌}
@@ -21,10 +23,10 @@ use Rattle.head_anchor.specs.declared.CarryOutcome.{CarryOutcome}
 use Rattle.head_anchor.specs.declared.Link.{Link}
 use Rattle.head_attempt.specs.declared.HeadCompletion.{HeadCompletion}
 use Rattle.head_count.specs.declared.HeadStats.{HeadStats}
-use Rattle.head_current.specs.declared.LastReport.{LastReport}
 use Rattle.head_ready.specs.declared.HeadCold.{HeadCold}
 use Rattle.head_ready.specs.declared.HeadReadiness.{HeadReadiness}
 use Rattle.head_ready.specs.declared.Source.{Source}
+use Rattle.head_current.specs.Parts.{report_of}
 
 -- ---- counters
 
@@ -72,17 +74,17 @@ unfolding outcome_text outcome_value cold_text value_text word_text
 outcome_most (CarryOutcome.Carried n) = simp length-append (omega (arith, length-decimal n))
 outcome_most (CarryOutcome.Cold k x) = cold_most k x
 
-made_form : (o : CarryOutcome) (n : ℕ) → report_text (LastReport.Made o n) ≡ ascii "(" ++ (outcome_text o ++ (ascii " " ++ (decimal n ++ ascii ")")))
+made_form : (o : CarryOutcome) (n : ℕ) → report_text (Some (report_of o n)) ≡ ascii "(" ++ (outcome_text o ++ (ascii " " ++ (decimal n ++ ascii ")")))
 unfolding report_text report_value outcome_text value_text
 made_form o n = refl
 
-made_most : (o : CarryOutcome) (n : ℕ) → length (report_text (LastReport.Made o n)) ≤ 75
+made_most : (o : CarryOutcome) (n : ℕ) → length (report_text (Some (report_of o n))) ≤ 75
 made_most o n = rw (made_form o n) (simp length-append (omega (arith, outcome_most o, length-decimal n)))
 
-pub report_most : (r : LastReport) → length (report_text r) ≤ 75
+pub report_most : (r : Option DeltaReport) → length (report_text r) ≤ 75
 unfolding report_text report_value value_text word_text
-report_most LastReport.Nothing = omega arith
-report_most (LastReport.Made o n) = made_most o n
+report_most None = omega arith
+report_most (Some r) = made_most r.outcome r.number
 
 pub readiness_most : (r : HeadReadiness) → length (readiness_text r) ≤ 52
 unfolding readiness_text readiness_value cold_text value_text word_text

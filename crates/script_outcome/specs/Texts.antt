@@ -1,5 +1,6 @@
 -- A name for the text of each value that holds no hash: it is the same on a line and on a sheet.
-use Rattle.std.specs.Prelude.{ℕ, List}
+use Rattle.head_current.specs.declared.DeltaReport.{DeltaReport}
+use Rattle.std.specs.Prelude.{ℕ, List, Option}
 use Rattle.head_anchor.specs.Values.{Value, fault_value, outcome_value, skip_value}
 use Rattle.head_anchor.specs.Words.{Word}
 use Rattle.head_driver.specs.Answers.{end_value, readiness_value, report_value, source_value}
@@ -8,7 +9,6 @@ use Rattle.head_anchor.specs.declared.BalSkip.{BalSkip}
 use Rattle.head_anchor.specs.declared.CarryOutcome.{CarryOutcome}
 use Rattle.head_anchor.specs.declared.Link.{Link}
 use Rattle.head_attempt.specs.declared.HeadCompletion.{HeadCompletion}
-use Rattle.head_current.specs.declared.LastReport.{LastReport}
 use Rattle.head_ready.specs.declared.HeadCold.{HeadCold}
 use Rattle.head_ready.specs.declared.HeadReadiness.{HeadReadiness}
 use Rattle.head_ready.specs.declared.Source.{Source}
@@ -20,7 +20,7 @@ cold_text link skip = value_text Page.Line (Value.three (Value.word Word.cold) (
 unfoldable pub outcome_text : CarryOutcome → List ℕ
 outcome_text o = value_text Page.Line (outcome_value o)
 
-unfoldable pub report_text : LastReport → List ℕ
+unfoldable pub report_text : Option DeltaReport → List ℕ
 report_text r = value_text Page.Line (report_value r)
 
 unfoldable pub reason_text : HeadCold → List ℕ

@@ -1,98 +1,101 @@
 // The lines of the answers of calls that only read, each without its line feed.
-ghost use Rattle.std.specs.Prelude.{◌+◌, ◌≤◌, length};
+// A bracket, a word and the value, in three lines each: one function over a writer handed in would need that writer's contract written out.
+#![tactic(auto, using(text_put::proofs::Writers::wrote_both), unfolding(script_outcome::specs::Texts::end_text, head_driver::specs::Answers::end_value, value_text::specs::Values::value_text, value_text::specs::Words::word_text, value_text::specs::Texts::fault_text, value_text::specs::Texts::link_text, head_anchor::specs::Values::fault_value, head_anchor::specs::Values::link_value, script_value::specs::Lines::answer_text, script_value::specs::Lines::said_text, head_driver::specs::Answers::said, script_value::specs::Lines::refusal_on, value_text::specs::Values::values_on, script_outcome::specs::Texts::report_text, value_text::specs::Texts::slot_text))]
+
 ghost use Rattle.head_driver.specs.declared.Answer.{Answer};
+ghost use Rattle.script_outcome.specs.Texts.{end_text};
 ghost use Rattle.script_value.specs.Lines.{answer_text};
-ghost use Rattle.text.specs.Writes.{Wrote};
+ghost use Rattle.text_put.specs.Writers.{Puts, Room};
 ghost use Rattle.value_text.specs.Texts.{link_text};
 
-use head_anchor::{AnchorSlot, Link};
+use head_anchor::{Link, ReadAnchor};
 use head_attempt::HeadCompletion;
 use head_count::HeadStats;
-use head_current::LastReport;
+use head_current::DeltaReport;
 use link_text::put_fault;
 use script_report::put_report;
 use script_value::counters::put_stats;
 use slot_text::put_slot;
-use text_put::put::{put, put_byte};
+use text_put::TextWriter;
 use value_text::page::Page;
 
-#[tactic(auto, unfolding(script_value::specs::Lines::answer_text, script_value::specs::Lines::said_text, head_driver::specs::Answers::said, head_driver::specs::Answers::end_value, script_value::specs::Lines::refusal_on, value_text::specs::Values::values_on, value_text::specs::Values::value_text, value_text::specs::Words::word_text))]
-pub(crate) fn put_completion(buf: &mut [u8], at: usize, end: HeadCompletion) -> usize
-    requires { at + 23 ≤ length buf.old }
-    ensures wrote { Wrote buf.old buf.new at result (answer_text (Answer.Completion end)) }
-    ensures upper_bound { result ≤ at + 23 }
+// Puts how an attempt ended, or `none`.
+pub(crate) fn put_end(out: &mut TextWriter<'_>, end: HeadCompletion)
+    requires { Room out.old 10 }
+    ensures { Puts out.old out.new 10 (end_text end) }
 {
     match end {
-        HeadCompletion::Open => put(buf, at, b"(completion none)"),
-        HeadCompletion::Settled => put(buf, at, b"(completion settled)"),
-        HeadCompletion::Superseded => put(buf, at, b"(completion superseded)"),
-        HeadCompletion::Abandoned => put(buf, at, b"(completion abandoned)"),
+        HeadCompletion::Open => out.text(b"none"),
+        HeadCompletion::Settled => out.text(b"settled"),
+        HeadCompletion::Superseded => out.text(b"superseded"),
+        HeadCompletion::Abandoned => out.text(b"abandoned"),
     }
+}
+
+// Its word is longer than the checker's `grind` reads, so it has a list of its own, with the writer opened.
+#[tactic(auto, using(text_put::proofs::Writers::wrote_both), unfolding(script_value::specs::Lines::answer_text, script_value::specs::Lines::said_text, head_driver::specs::Answers::said, script_value::specs::Lines::refusal_on, value_text::specs::Values::values_on, value_text::specs::Words::word_text, script_outcome::specs::Texts::end_text, value_text::specs::Values::value_text, head_driver::specs::Answers::end_value, text_put::specs::Writers::wrote))]
+pub(crate) fn put_completion(out: &mut TextWriter<'_>, end: HeadCompletion)
+    requires { Room out.old 23 }
+    ensures { Puts out.old out.new 23 (answer_text (Answer.Completion end)) }
+{
+    out.text(b"(completion ");
+    put_end(out, end);
+    out.byte(b')');
 }
 
 // Puts how a link stands: `linked`, or what is wrong with it.
-#[tactic(auto, using(text::proofs::Writes::wrote_as), unfolding(value_text::specs::Texts::fault_text, value_text::specs::Texts::link_text, head_anchor::specs::Values::fault_value, head_anchor::specs::Values::link_value, value_text::specs::Values::value_text, value_text::specs::Words::word_text))]
-pub(crate) fn put_link_word(buf: &mut [u8], at: usize, link: Link) -> usize
-    requires { at + 15 ≤ length buf.old }
-    ensures wrote { Wrote buf.old buf.new at result (link_text link) }
-    ensures upper_bound { result ≤ at + 15 }
+pub(crate) fn put_link_word(out: &mut TextWriter<'_>, link: Link)
+    requires { Room out.old 15 }
+    ensures { Puts out.old out.new 15 (link_text link) }
 {
     match link {
-        Link::Linked => put(buf, at, b"linked"),
-        _ => put_fault(buf, at, link),
+        Link::Linked => out.text(b"linked"),
+        _ => put_fault(out, link),
     }
 }
 
-#[tactic(auto, unfolding(script_value::specs::Lines::answer_text, script_value::specs::Lines::said_text, head_driver::specs::Answers::said, script_value::specs::Lines::refusal_on, value_text::specs::Values::values_on, value_text::specs::Words::word_text, value_text::specs::Texts::link_text))]
-pub(crate) fn put_link(buf: &mut [u8], at: usize, link: Link) -> usize
-    requires { at + 22 ≤ length buf.old }
-    ensures wrote { Wrote buf.old buf.new at result (answer_text (Answer.Link link)) }
-    ensures upper_bound { result ≤ at + 22 }
+pub(crate) fn put_link(out: &mut TextWriter<'_>, link: Link)
+    requires { Room out.old 22 }
+    ensures { Puts out.old out.new 22 (answer_text (Answer.Link link)) }
 {
-    let i = put(buf, at, b"(link ");
-    let j = put_link_word(buf, i, link);
-    put_byte(buf, j, b')')
+    out.text(b"(link ");
+    put_link_word(out, link);
+    out.byte(b')');
 }
 
-#[tactic(auto, unfolding(script_value::specs::Lines::answer_text, script_value::specs::Lines::said_text, head_driver::specs::Answers::said, script_value::specs::Lines::refusal_on, value_text::specs::Values::values_on, value_text::specs::Values::value_text, value_text::specs::Words::word_text, script_outcome::specs::Texts::report_text))]
-pub(crate) fn put_report_line(buf: &mut [u8], at: usize, report: LastReport) -> usize
-    requires { at + 84 ≤ length buf.old }
-    ensures wrote { Wrote buf.old buf.new at result (answer_text (Answer.Report report)) }
-    ensures upper_bound { result ≤ at + 84 }
+pub(crate) fn put_report_line(out: &mut TextWriter<'_>, report: Option<DeltaReport>)
+    requires { Room out.old 84 }
+    ensures { Puts out.old out.new 84 (answer_text (Answer.Report report)) }
 {
-    let i = put(buf, at, b"(report ");
-    let j = put_report(buf, i, report);
-    put_byte(buf, j, b')')
+    out.text(b"(report ");
+    put_report(out, report);
+    out.byte(b')');
 }
 
-#[tactic(auto, using(text::proofs::Writes::then, text::proofs::Writes::wrote_as, crate::proofs::Statistics::stats_line))]
-pub(crate) fn put_stats_line(buf: &mut [u8], at: usize, stats: HeadStats) -> usize
-    requires { at + 175 ≤ length buf.old }
-    ensures wrote { Wrote buf.old buf.new at result (answer_text (Answer.Stats stats)) }
-    ensures upper_bound { result ≤ at + 175 }
+#[tactic(auto, using(text_put::proofs::Writers::wrote_both, crate::proofs::Statistics::stats_line))]
+pub(crate) fn put_stats_line(out: &mut TextWriter<'_>, stats: HeadStats)
+    requires { Room out.old 175 }
+    ensures { Puts out.old out.new 175 (answer_text (Answer.Stats stats)) }
 {
-    let i = put(buf, at, b"(stats");
-    let j = put_stats(buf, i, stats);
-    put_byte(buf, j, b')')
+    out.text(b"(stats");
+    put_stats(out, stats);
+    out.byte(b')');
 }
 
-#[tactic(auto, unfolding(script_value::specs::Lines::answer_text, script_value::specs::Lines::said_text, head_driver::specs::Answers::said, script_value::specs::Lines::refusal_on, value_text::specs::Values::values_on, value_text::specs::Values::value_text, value_text::specs::Words::word_text, value_text::specs::Texts::slot_text))]
 pub(crate) fn put_heads(
-    buf: &mut [u8],
-    at: usize,
-    current: AnchorSlot,
-    installed: AnchorSlot,
-    previous: AnchorSlot,
-) -> usize
-    requires { at + 271 ≤ length buf.old }
-    ensures wrote { Wrote buf.old buf.new at result (answer_text (Answer.Heads current installed previous)) }
-    ensures upper_bound { result ≤ at + 271 }
+    out: &mut TextWriter<'_>,
+    current: Option<ReadAnchor>,
+    installed: Option<ReadAnchor>,
+    previous: Option<ReadAnchor>,
+)
+    requires { Room out.old 271 }
+    ensures { Puts out.old out.new 271 (answer_text (Answer.Heads current installed previous)) }
 {
-    let i = put(buf, at, b"(heads ");
-    let j = put_slot(buf, i, Page::Line, current);
-    let k = put_byte(buf, j, b' ');
-    let l = put_slot(buf, k, Page::Line, installed);
-    let m = put_byte(buf, l, b' ');
-    let n = put_slot(buf, m, Page::Line, previous);
-    put_byte(buf, n, b')')
+    out.text(b"(heads ");
+    put_slot(out, Page::Line, current);
+    out.byte(b' ');
+    put_slot(out, Page::Line, installed);
+    out.byte(b' ');
+    put_slot(out, Page::Line, previous);
+    out.byte(b')');
 }

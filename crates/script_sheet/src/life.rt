@@ -1,26 +1,21 @@
 // The sheet's lines of the lifecycle, in document 01's order.
-ghost use Rattle.std.specs.Prelude.{◌+◌, ◌≤◌, length};
 ghost use Rattle.alike.specs.Canon.{shown_life};
 ghost use Rattle.script_sheet.specs.Sheets.{life_lines};
-ghost use Rattle.text.specs.Writes.{Wrote};
+ghost use Rattle.text_put.specs.Writers.{Puts, Room};
 
 use crate::mask::shown_superseded;
 use head_life::HeadLifecycle;
 use sheet_generations::put_generations;
 use sheet_lines::put_count_to_superseded;
+use text_put::TextWriter;
 
 // Puts what the sheet shows of a lifecycle: all as it is stored but for the superseded anchor. Attempt epochs and the head's seq are not written.
-#[tactic(auto, using(text::proofs::Writes::then, text::proofs::Writes::wrote_as, crate::proofs::Shown::life_shown))]
-pub(crate) fn put_life(buf: &mut [u8], at: usize, life: HeadLifecycle) -> usize
-    requires { at + 892 ≤ length buf.old }
-    ensures wrote { Wrote buf.old buf.new at result (life_lines (shown_life life)) }
-    ensures upper_bound { result ≤ at + 892 }
+#[tactic(auto, using(text_put::proofs::Writers::wrote_both, crate::proofs::Shown::life_shown))]
+pub(crate) fn put_life(out: &mut TextWriter<'_>, life: HeadLifecycle)
+    requires { Room out.old 892 }
+    ensures { Puts out.old out.new 892 (life_lines (shown_life life)) }
 {
-    let current = life.current;
-    let stored = life.superseded;
-    let installed = life.installed;
-    let previous = life.previous;
-    let superseded = shown_superseded(current, previous, stored);
-    let i = put_count_to_superseded(buf, at, life.stats, life.claim_epoch, current, superseded);
-    put_generations(buf, i, installed, previous)
+    let superseded = shown_superseded(life.current, life.previous, life.superseded);
+    put_count_to_superseded(out, life.stats, life.claim_epoch, life.current, superseded);
+    put_generations(out, life.installed, life.previous);
 }

@@ -1,51 +1,30 @@
 // What a sheet shows of the superseded anchor: `none` where it is the current one, or the previous one under a settled head, since no answer tells it then.
 ghost use Rattle.std.specs.Prelude.{◌≡◌};
-ghost use Rattle.alike.specs.Canon.{is_settled, masked, shown_superseded};
+ghost use Rattle.alike.specs.Canon.{masked, shown_superseded};
 
-use hash::both;
-use head_anchor::storage_memo::holds;
-use head_anchor::{AnchorSlot, ReadAnchor};
+use head_anchor::ReadAnchor;
 use head_current::CurrentHead;
-use head_ready::GenerationSlot;
+use head_ready::Generation;
+use head_ready::delta_snapshot::slot_anchor;
 
-pub(crate) fn is_settled(current: CurrentHead) -> bool
-    ensures { result ≡ is_settled current }
-{
-    match current {
-        CurrentHead::Absent => false,
-        CurrentHead::Unclaimed(_) => false,
-        CurrentHead::Preparing(_) => false,
-        CurrentHead::Settled(_) => true,
-    }
-}
-
-#[tactic(auto, unfolding(alike::specs::Canon::masked))]
-pub(crate) fn masked(current: CurrentHead, previous: GenerationSlot, anchor: ReadAnchor) -> bool
+#[tactic(auto, unfolding(alike::specs::Canon::masked, alike::specs::Canon::is_settled, head_anchor::specs::Anchors::holds, head_anchor::specs::Anchors::same_anchor, hash::specs::Hashes::same_hash))]
+pub(crate) fn masked(current: CurrentHead, previous: Option<Generation>, anchor: ReadAnchor) -> bool
     ensures { result ≡ masked current previous anchor }
 {
-    if holds(current.anchor(), anchor) {
-        true
-    } else {
-        both(is_settled(current), holds(previous.anchor(), anchor))
-    }
+    let is_settled = matches!(current, CurrentHead::Settled(_));
+    current.anchor() == Some(anchor) || is_settled && slot_anchor(previous) == Some(anchor)
 }
 
 #[tactic(auto, unfolding(alike::specs::Canon::shown_superseded, alike::specs::Canon::mask_by))]
 pub(crate) fn shown_superseded(
     current: CurrentHead,
-    previous: GenerationSlot,
-    superseded: AnchorSlot,
-) -> AnchorSlot
+    previous: Option<Generation>,
+    superseded: Option<ReadAnchor>,
+) -> Option<ReadAnchor>
     ensures { result ≡ shown_superseded current previous superseded }
 {
     match superseded {
-        AnchorSlot::Nothing => AnchorSlot::Nothing,
-        AnchorSlot::At(anchor) => {
-            if masked(current, previous, anchor) {
-                AnchorSlot::Nothing
-            } else {
-                AnchorSlot::At(anchor)
-            }
-        }
+        Some(anchor) if !masked(current, previous, anchor) => superseded,
+        _ => None,
     }
 }

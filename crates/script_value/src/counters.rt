@@ -1,49 +1,44 @@
 // The eight counters as text.
-ghost use Rattle.std.specs.Prelude.{◌+◌, ◌≤◌, length};
 ghost use Rattle.script_value.specs.Texts.{spaced_text, four_text, stats_text};
-ghost use Rattle.text.specs.Writes.{Wrote};
+ghost use Rattle.text_put.specs.Writers.{Puts, Room};
 
 use head_count::HeadStats;
 use number_text::put_decimal;
-use text_put::put::put_byte;
+use text_put::TextWriter;
 
 // Puts ` N`.
-#[tactic(auto, using(text::proofs::Writes::then), unfolding(crate::specs::Texts::spaced_text))]
-pub fn put_spaced(buf: &mut [u8], at: usize, n: u64) -> usize
-    requires { at + 21 ≤ length buf.old }
-    ensures wrote { Wrote buf.old buf.new at result (spaced_text n) }
-    ensures upper_bound { result ≤ at + 21 }
+#[tactic(auto, using(text_put::proofs::Writers::wrote_both), unfolding(crate::specs::Texts::spaced_text))]
+pub fn put_spaced(out: &mut TextWriter<'_>, n: u64)
+    requires { Room out.old 21 }
+    ensures { Puts out.old out.new 21 (spaced_text n) }
 {
-    let i = put_byte(buf, at, b' ');
-    put_decimal(buf, i, n)
+    out.byte(b' ');
+    put_decimal(out, n);
 }
 
-#[tactic(auto, unfolding(crate::specs::Texts::four_text))]
-pub(crate) fn put_four(buf: &mut [u8], at: usize, a: u64, b: u64, c: u64, d: u64) -> usize
-    requires { at + 84 ≤ length buf.old }
-    ensures wrote { Wrote buf.old buf.new at result (four_text a b c d) }
-    ensures upper_bound { result ≤ at + 84 }
+#[tactic(auto, using(text_put::proofs::Writers::wrote_both), unfolding(crate::specs::Texts::four_text))]
+pub(crate) fn put_four(out: &mut TextWriter<'_>, a: u64, b: u64, c: u64, d: u64)
+    requires { Room out.old 84 }
+    ensures { Puts out.old out.new 84 (four_text a b c d) }
 {
-    let i = put_spaced(buf, at, a);
-    let j = put_spaced(buf, i, b);
-    let k = put_spaced(buf, j, c);
-    put_spaced(buf, k, d)
+    put_spaced(out, a);
+    put_spaced(out, b);
+    put_spaced(out, c);
+    put_spaced(out, d);
 }
 
 // Puts the counters in order, each after a space.
-#[tactic(auto, using(text::proofs::Writes::then, text::proofs::Writes::wrote_as, crate::proofs::Halves::stats_split))]
-pub fn put_stats(buf: &mut [u8], at: usize, s: HeadStats) -> usize
-    requires { at + 168 ≤ length buf.old }
-    ensures wrote { Wrote buf.old buf.new at result (stats_text s) }
-    ensures upper_bound { result ≤ at + 168 }
+#[tactic(auto, using(text_put::proofs::Writers::wrote_both, crate::proofs::Halves::stats_split))]
+pub fn put_stats(out: &mut TextWriter<'_>, s: HeadStats)
+    requires { Room out.old 168 }
+    ensures { Puts out.old out.new 168 (stats_text s) }
 {
-    let i = put_four(buf, at, s.delivered, s.repeated, s.superseded, s.settled);
+    put_four(out, s.delivered, s.repeated, s.superseded, s.settled);
     put_four(
-        buf,
-        i,
+        out,
         s.already_current,
         s.discarded,
         s.ready_views,
         s.cold_views,
-    )
+    );
 }

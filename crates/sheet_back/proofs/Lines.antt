@@ -1,4 +1,6 @@
 -- The lines of the lifecycle are read back.
+use Rattle.std.specs.Prelude.{Option, None, Some}
+use Rattle.head_anchor.specs.declared.ReadAnchor.{ReadAnchor}
 use Prim.Native.Nat.{ℕ}
 use mathlib.Core.List.{List, ◌++◌, append_assoc}
 use mathlib.Core.Path.{◌≡◌, refl, ◌∙◌}
@@ -29,7 +31,6 @@ use Rattle.text.specs.Ascii.{ascii}
 use Rattle.text.specs.Rests.{after, at, after_byte}
 use Rattle.text.specs.Same.{same_text}
 use Rattle.text.specs.Words.{in_word, run}
-use Rattle.head_anchor.specs.declared.AnchorSlot.{AnchorSlot}
 use Rattle.head_count.specs.declared.Epoch.{Epoch}
 use Rattle.head_attempt.specs.declared.HeadCompletion.{HeadCompletion}
 use Rattle.head_count.specs.declared.HeadStats.{HeadStats}
@@ -38,7 +39,6 @@ use Rattle.head_current.specs.declared.HeadDelivery.{HeadDelivery}
 use Rattle.head_current.specs.declared.SettledHead.{SettledHead}
 use Rattle.head_current.specs.declared.UnsettledHead.{UnsettledHead}
 use Rattle.head_ready.specs.declared.Generation.{Generation}
-use Rattle.head_ready.specs.declared.GenerationSlot.{GenerationSlot}
 use Rattle.value_text.specs.declared.page.Page.{Page}
 use Rattle.sheet_back.specs.Heads.{head_named, read_count, read_current, read_delivery, read_generation, read_held, read_installed, read_unclaimed_end, read_preparing, read_previous, read_settled, read_superseded, read_unclaimed}
 
@@ -137,17 +137,17 @@ module _ (n : ℕ) (e : Epoch) where
 
 -- ---- superseded
 
-pub superseded_back : (s : AnchorSlot) (t : List ℕ) → SlotFits s → read_superseded (at (superseded_line s ++ t)) ≡ got s (at t)
+pub superseded_back : (s : Option ReadAnchor) (t : List ℕ) → SlotFits s → read_superseded (at (superseded_line s ++ t)) ≡ got s (at t)
 unfolding read_superseded superseded_line then after after_byte run in_word
 superseded_back s t f = simp (append_assoc, slot_back)
 
 -- ---- installed and previous
 
-held_form : (g : Generation) (t : List ℕ) → generation_text (GenerationSlot.Held g) ++ t ≡ anchor_text Page.Sheet g.anchor ++ (spaced_text g.handle ++ (ascii " " ++ (readiness_text g.readiness ++ t)))
+held_form : (g : Generation) (t : List ℕ) → generation_text (Some g) ++ t ≡ anchor_text Page.Sheet g.anchor ++ (spaced_text g.handle ++ (ascii " " ++ (readiness_text g.readiness ++ t)))
 unfolding generation_text
 held_form g t = simp append_assoc
 
-held_back : (g : Generation) (t : List ℕ) → GenerationFits g → run t ≡ 0 → read_held (at (generation_text (GenerationSlot.Held g) ++ t)) ≡ got (GenerationSlot.Held g) (at t)
+held_back : (g : Generation) (t : List ℕ) → GenerationFits g → run t ≡ 0 → read_held (at (generation_text (Some g) ++ t)) ≡ got (Some g) (at t)
 unfolding read_held after after_byte run in_word
 held_back g t f z =
     let fa = f.anchor in
@@ -155,18 +155,18 @@ held_back g t f z =
     let fr = f.readiness in
     rw (held_form g t) (simp (anchor_back, spaced_back, readiness_back))
 
-generation_back : (g : GenerationSlot) (t : List ℕ) → GenerationSlotFits g → run t ≡ 0 → read_generation (at (generation_text g ++ t)) ≡ got g (at t)
+generation_back : (g : Option Generation) (t : List ℕ) → GenerationSlotFits g → run t ≡ 0 → read_generation (at (generation_text g ++ t)) ≡ got g (at t)
 unfolding read_generation generation_text word_text run in_word
-generation_back GenerationSlot.Nothing t f z = word_hit _ _ t z (ascii "none") refl
-generation_back (GenerationSlot.Held g) t f z = held_open g t ∙ held_back g t f z
+generation_back None t f z = word_hit _ _ t z (ascii "none") refl
+generation_back (Some g) t f z = held_open g t ∙ held_back g t f z
   where
-    held_open : (g : Generation) (t : List ℕ) → read_generation (at (generation_text (GenerationSlot.Held g) ++ t)) ≡ read_held (at (generation_text (GenerationSlot.Held g) ++ t))
+    held_open : (g : Generation) (t : List ℕ) → read_generation (at (generation_text (Some g) ++ t)) ≡ read_held (at (generation_text (Some g) ++ t))
     held_open g t = rw (held_form g t, anchor_form Page.Sheet g.anchor) (open_miss _ _ _ _ _)
 
-pub installed_back : (g : GenerationSlot) (t : List ℕ) → GenerationSlotFits g → read_installed (at (installed_line g ++ t)) ≡ got g (at t)
+pub installed_back : (g : Option Generation) (t : List ℕ) → GenerationSlotFits g → read_installed (at (installed_line g ++ t)) ≡ got g (at t)
 unfolding read_installed installed_line then after after_byte run in_word
 installed_back g t f = simp (append_assoc, generation_back)
 
-pub previous_back : (g : GenerationSlot) (t : List ℕ) → GenerationSlotFits g → read_previous (at (previous_line g ++ t)) ≡ got g (at t)
+pub previous_back : (g : Option Generation) (t : List ℕ) → GenerationSlotFits g → read_previous (at (previous_line g ++ t)) ≡ got g (at t)
 unfolding read_previous previous_line then after after_byte run in_word
 previous_back g t f = simp (append_assoc, generation_back)

@@ -1,6 +1,7 @@
 -- Reading the lines of the lifecycle, in document 01's order.
-use Rattle.std.specs.Prelude.{ℕ, List}
-use Rattle.hash.specs.Logic.{if}
+use Rattle.head_anchor.specs.declared.ReadAnchor.{ReadAnchor}
+use Rattle.head_ready.specs.declared.Generation.{Generation}
+use Rattle.std.specs.Prelude.{ℕ, List, Option, None, Some, cond}
 use Rattle.head_anchor.specs.Words.{Word}
 use Rattle.head_attempt.specs.Attempts.{minted, settled}
 use Rattle.head_count.specs.Counters.{epoch_of, seq_of}
@@ -13,13 +14,11 @@ use Rattle.value_text.specs.Words.{word_text}
 use Rattle.text.specs.Ascii.{ascii}
 use Rattle.text.specs.Rests.{Rest, Took, after, past_word, stopped, word_here}
 use Rattle.text.specs.Same.{same_text}
-use Rattle.head_anchor.specs.declared.AnchorSlot.{AnchorSlot}
 use Rattle.head_count.specs.declared.Epoch.{Epoch}
 use Rattle.head_attempt.specs.declared.HeadCompletion.{HeadCompletion}
 use Rattle.head_count.specs.declared.HeadStats.{HeadStats}
 use Rattle.head_current.specs.declared.CurrentHead.{CurrentHead}
 use Rattle.head_current.specs.declared.HeadDelivery.{HeadDelivery}
-use Rattle.head_ready.specs.declared.GenerationSlot.{GenerationSlot}
 use Rattle.value_text.specs.declared.page.Page.{Page}
 
 -- ---- count
@@ -71,10 +70,10 @@ read_settled delivered r =
 -- the head that a word names, with the rest after the word
 unfoldable pub head_named : ℕ → Epoch → List ℕ → Rest → Took CurrentHead
 head_named delivered epoch w r =
-    if (same_text w (ascii "none")) (got CurrentHead.Absent r)
-    (if (same_text w (ascii "unclaimed")) (read_unclaimed delivered r)
-    (if (same_text w (ascii "preparing")) (read_preparing delivered epoch r)
-    (if (same_text w (ascii "settled")) (read_settled delivered r)
+    cond (same_text w (ascii "none")) (got CurrentHead.Absent r)
+    (cond (same_text w (ascii "unclaimed")) (read_unclaimed delivered r)
+    (cond (same_text w (ascii "preparing")) (read_preparing delivered epoch r)
+    (cond (same_text w (ascii "settled")) (read_settled delivered r)
     (got CurrentHead.Absent stopped))))
 
 unfoldable pub read_current : ℕ → Epoch → Rest → Took CurrentHead
@@ -82,24 +81,24 @@ read_current delivered epoch r = then (ascii ")\n") (head_named delivered epoch 
 
 -- ---- superseded
 
-unfoldable pub read_superseded : Rest → Took AnchorSlot
+unfoldable pub read_superseded : Rest → Took (Option ReadAnchor)
 read_superseded r = then (ascii ")\n") (read_slot Page.Sheet (after (ascii "(superseded ") r))
 
 -- ---- installed and previous
 
 -- `A H READINESS`
-unfoldable pub read_held : Rest → Took GenerationSlot
+unfoldable pub read_held : Rest → Took (Option Generation)
 read_held r =
     let anchor = read_anchor Page.Sheet r in
     let handle = spaced_number anchor.next in
     let readiness = read_readiness (after (ascii " ") handle.next) in
-    got (GenerationSlot.Held (record { anchor = anchor.value; handle = handle.value; readiness = readiness.value })) readiness.next
+    got (Some (record { anchor = anchor.value; handle = handle.value; readiness = readiness.value })) readiness.next
 
-unfoldable pub read_generation : Rest → Took GenerationSlot
-read_generation r = or_word (word_text Word.none) GenerationSlot.Nothing r (read_held r)
+unfoldable pub read_generation : Rest → Took (Option Generation)
+read_generation r = or_word (word_text Word.none) None r (read_held r)
 
-unfoldable pub read_installed : Rest → Took GenerationSlot
+unfoldable pub read_installed : Rest → Took (Option Generation)
 read_installed r = then (ascii ")\n") (read_generation (after (ascii "(installed ") r))
 
-unfoldable pub read_previous : Rest → Took GenerationSlot
+unfoldable pub read_previous : Rest → Took (Option Generation)
 read_previous r = then (ascii ")\n") (read_generation (after (ascii "(previous ") r))

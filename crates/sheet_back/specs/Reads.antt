@@ -1,6 +1,5 @@
 -- Reading a sheet: its lines in order, and nothing after them.
-use Rattle.std.specs.Prelude.{ℕ, List}
-use Rattle.hash.specs.Logic.{if}
+use Rattle.std.specs.Prelude.{ℕ, List, cond}
 use Rattle.head_count.specs.Counters.{seq_of}
 use Rattle.text.specs.Rests.{Rest, at, at_end}
 use Rattle.head_driver.specs.declared.Driver.{Driver}
@@ -13,7 +12,7 @@ pub data Sheet : Type 0 where
   none : Sheet
 
 unfoldable pub whole : Rest → Driver → Sheet
-whole r d = if (at_end r) (Sheet.shows d) Sheet.none
+whole r d = cond (at_end r) (Sheet.shows d) Sheet.none
 
 unfoldable pub read_sheet : List ℕ → Sheet
 read_sheet s =

@@ -1,12 +1,13 @@
 -- Document 01, "The sheet": its lines, in its order. Every one ends with a line feed; an absent part is `none` in its brackets.
-use Rattle.std.specs.Prelude.{ℕ, suc, List, [], ◌∷◌, ◌++◌}
+use Rattle.head_anchor.specs.declared.ReadAnchor.{ReadAnchor}
+use Rattle.head_ready.specs.declared.Generation.{Generation}
+use Rattle.std.specs.Prelude.{ℕ, suc, List, [], ◌∷◌, ◌++◌, Option, None, Some}
 use Rattle.script_outcome.specs.Texts.{readiness_text, report_text}
 use Rattle.script_value.specs.Texts.{spaced_text, stats_text}
 use Rattle.value_text.specs.Texts.{anchor_text, slot_text}
 use Rattle.value_text.specs.Values.{hash_text}
 use Rattle.text.specs.Ascii.{ascii}
 use Rattle.text.specs.Decimals.{decimal}
-use Rattle.head_anchor.specs.declared.AnchorSlot.{AnchorSlot}
 use Rattle.head_count.specs.declared.Epoch.{Epoch}
 use Rattle.head_attempt.specs.declared.HeadCompletion.{HeadCompletion}
 use Rattle.head_count.specs.declared.HeadStats.{HeadStats}
@@ -15,7 +16,6 @@ use Rattle.head_attempt.specs.declared.WaiterSlot.{WaiterSlot}
 use Rattle.head_current.specs.declared.CurrentHead.{CurrentHead}
 use Rattle.head_current.specs.declared.HeadDelivery.{HeadDelivery}
 use Rattle.head_current.specs.declared.UnsettledHead.{UnsettledHead}
-use Rattle.head_ready.specs.declared.GenerationSlot.{GenerationSlot}
 use Rattle.value_text.specs.declared.page.Page.{Page}
 
 -- count: eight counters, then epoch
@@ -45,19 +45,19 @@ current_line (CurrentHead.Preparing u) = ascii "(current preparing " ++ (unsettl
 current_line (CurrentHead.Settled s) = ascii "(current settled " ++ (delivery_text s.delivery ++ (ascii " " ++ (report_text s.report ++ ascii ")\n")))
 
 -- `(superseded A)`
-unfoldable pub superseded_line : AnchorSlot → List ℕ
+unfoldable pub superseded_line : Option ReadAnchor → List ℕ
 superseded_line s = ascii "(superseded " ++ (slot_text Page.Sheet s ++ ascii ")\n")
 
 -- `A H READINESS`
-unfoldable pub generation_text : GenerationSlot → List ℕ
-generation_text GenerationSlot.Nothing = ascii "none"
-generation_text (GenerationSlot.Held g) = anchor_text Page.Sheet g.anchor ++ (spaced_text g.handle ++ (ascii " " ++ readiness_text g.readiness))
+unfoldable pub generation_text : Option Generation → List ℕ
+generation_text None = ascii "none"
+generation_text (Some g) = anchor_text Page.Sheet g.anchor ++ (spaced_text g.handle ++ (ascii " " ++ readiness_text g.readiness))
 
 -- `(installed A H READINESS)` and `(previous A H READINESS)`
-unfoldable pub installed_line : GenerationSlot → List ℕ
+unfoldable pub installed_line : Option Generation → List ℕ
 installed_line g = ascii "(installed " ++ (generation_text g ++ ascii ")\n")
 
-unfoldable pub previous_line : GenerationSlot → List ℕ
+unfoldable pub previous_line : Option Generation → List ℕ
 previous_line g = ascii "(previous " ++ (generation_text g ++ ascii ")\n")
 
 -- `(wait N parked)`, `(wait N abandoned A)` or `(wait N ended A)`, for a waiter that is not free

@@ -1,142 +1,118 @@
 // The lines of a sheet, and the writers of its first three, each with its line feed, into a lent buffer: the counters, the current head, the superseded anchor.
 // Knows nothing of what a sheet leaves out.
-#![tactic(auto)]
+#![tactic(auto, using(text_put::proofs::Writers::wrote_both), unfolding(crate::specs::Lines::unclaimed_end_text, crate::specs::Lines::delivery_text, value_text::specs::Values::hash_text, crate::specs::Lines::unsettled_text, crate::specs::Lines::current_line))]
 
-ghost use Rattle.std.specs.Prelude.{◌+◌, ◌≤◌, length, ◌++◌};
+ghost use Rattle.std.specs.Prelude.{◌++◌};
 ghost use Rattle.script_outcome.specs.Texts.{report_text};
 ghost use Rattle.sheet_lines.specs.Lines.{unclaimed_end_text, delivery_text, unsettled_text, count_line, current_line, superseded_line};
 ghost use Rattle.text.specs.Ascii.{ascii};
-ghost use Rattle.text.specs.Writes.{Wrote};
+ghost use Rattle.text_put.specs.Writers.{Puts, Room};
 
 use crate::lines::{put_count, put_superseded};
-use hash_text::put_sheet_hash;
-use head_anchor::AnchorSlot;
+use hash_text::put_hash;
+use head_anchor::ReadAnchor;
 use head_attempt::HeadCompletion;
 use head_count::{Epoch, HeadStats};
-use head_current::{CurrentHead, HeadDelivery, LastReport, SettledHead, UnsettledHead};
+use head_current::{CurrentHead, DeltaReport, HeadDelivery, SettledHead, UnsettledHead};
 use script_report::put_report;
 use script_value::counters::put_spaced;
-use text_put::put::{put, put_byte};
+use text_put::TextWriter;
 use value_text::anchor::put_anchor;
 use value_text::page::Page;
 
 mod lines;
 
 // Puts how an unclaimed head's attempt stands, and the end of its line.
-#[tactic(auto, using(text::proofs::Writes::wrote_as, crate::proofs::UnclaimedEnds::open_end), unfolding(crate::specs::Lines::unclaimed_end_text))]
-pub(crate) fn put_unclaimed_end(buf: &mut [u8], at: usize, end: HeadCompletion) -> usize
-    requires { at + 12 ≤ length buf.old }
-    ensures wrote { Wrote buf.old buf.new at result (ascii " " ++ (unclaimed_end_text end ++ ascii ")\n")) }
-    ensures upper_bound { result ≤ at + 12 }
+pub(crate) fn put_unclaimed_end(out: &mut TextWriter<'_>, end: HeadCompletion)
+    requires { Room out.old 12 }
+    ensures { Puts out.old out.new 12 (ascii " " ++ (unclaimed_end_text end ++ ascii ")\n")) }
 {
     match end {
-        HeadCompletion::Open | HeadCompletion::Settled | HeadCompletion::Superseded => put(
-            buf,
-            at,
-            b" open)\n",
-        ),
-        HeadCompletion::Abandoned => put(buf, at, b" abandoned)\n"),
+        HeadCompletion::Abandoned => out.text(b" abandoned)\n"),
+        _ => out.text(b" open)\n"),
     }
 }
 
 // Puts `A P`.
-#[tactic(auto, unfolding(crate::specs::Lines::delivery_text, value_text::specs::Values::hash_text))]
-pub(crate) fn put_delivery(buf: &mut [u8], at: usize, held: HeadDelivery) -> usize
-    requires { at + 152 ≤ length buf.old }
-    ensures wrote { Wrote buf.old buf.new at result (delivery_text held) }
-    ensures upper_bound { result ≤ at + 152 }
+pub(crate) fn put_delivery(out: &mut TextWriter<'_>, held: HeadDelivery)
+    requires { Room out.old 152 }
+    ensures { Puts out.old out.new 152 (delivery_text held) }
 {
-    let i = put_anchor(buf, at, Page::Sheet, held.anchor);
-    let j = put_byte(buf, i, b' ');
-    put_sheet_hash(buf, j, held.parent_hash)
+    put_anchor(out, Page::Sheet, held.anchor);
+    out.byte(b' ');
+    put_hash(out, held.parent_hash);
 }
 
 // Puts `A P H`.
-#[tactic(auto, unfolding(crate::specs::Lines::unsettled_text))]
-pub(crate) fn put_unsettled(buf: &mut [u8], at: usize, head: UnsettledHead) -> usize
-    requires { at + 173 ≤ length buf.old }
-    ensures wrote { Wrote buf.old buf.new at result (unsettled_text head) }
-    ensures upper_bound { result ≤ at + 173 }
+pub(crate) fn put_unsettled(out: &mut TextWriter<'_>, head: UnsettledHead)
+    requires { Room out.old 173 }
+    ensures { Puts out.old out.new 173 (unsettled_text head) }
 {
-    let i = put_delivery(buf, at, head.delivery);
-    put_spaced(buf, i, head.provisional)
+    put_delivery(out, head.delivery);
+    put_spaced(out, head.provisional);
 }
 
-#[tactic(auto, unfolding(crate::specs::Lines::current_line))]
-pub(crate) fn put_unclaimed(buf: &mut [u8], at: usize, head: UnsettledHead) -> usize
-    requires { at + 204 ≤ length buf.old }
-    ensures wrote { Wrote buf.old buf.new at result (current_line (CurrentHead.Unclaimed head)) }
-    ensures upper_bound { result ≤ at + 204 }
+pub(crate) fn put_unclaimed(out: &mut TextWriter<'_>, head: UnsettledHead)
+    requires { Room out.old 204 }
+    ensures { Puts out.old out.new 204 (current_line (CurrentHead.Unclaimed head)) }
 {
-    let attempt = head.attempt;
-    let end = attempt.end;
-    let i = put(buf, at, b"(current unclaimed ");
-    let j = put_unsettled(buf, i, head);
-    put_unclaimed_end(buf, j, end)
+    out.text(b"(current unclaimed ");
+    put_unsettled(out, head);
+    put_unclaimed_end(out, head.attempt.end);
 }
 
-#[tactic(auto, unfolding(crate::specs::Lines::current_line))]
-pub(crate) fn put_preparing(buf: &mut [u8], at: usize, head: UnsettledHead) -> usize
-    requires { at + 194 ≤ length buf.old }
-    ensures wrote { Wrote buf.old buf.new at result (current_line (CurrentHead.Preparing head)) }
-    ensures upper_bound { result ≤ at + 194 }
+pub(crate) fn put_preparing(out: &mut TextWriter<'_>, head: UnsettledHead)
+    requires { Room out.old 194 }
+    ensures { Puts out.old out.new 194 (current_line (CurrentHead.Preparing head)) }
 {
-    let i = put(buf, at, b"(current preparing ");
-    let j = put_unsettled(buf, i, head);
-    put(buf, j, b")\n")
+    out.text(b"(current preparing ");
+    put_unsettled(out, head);
+    out.text(b")\n");
 }
 
 // Puts a settled head's report, and the end of its line.
-pub(crate) fn put_told(buf: &mut [u8], at: usize, report: LastReport) -> usize
-    requires { at + 78 ≤ length buf.old }
-    ensures wrote { Wrote buf.old buf.new at result (ascii " " ++ (report_text report ++ ascii ")\n")) }
-    ensures upper_bound { result ≤ at + 78 }
+pub(crate) fn put_told(out: &mut TextWriter<'_>, report: Option<DeltaReport>)
+    requires { Room out.old 78 }
+    ensures { Puts out.old out.new 78 (ascii " " ++ (report_text report ++ ascii ")\n")) }
 {
-    let i = put_byte(buf, at, b' ');
-    let j = put_report(buf, i, report);
-    put(buf, j, b")\n")
+    out.byte(b' ');
+    put_report(out, report);
+    out.text(b")\n");
 }
 
-#[tactic(auto, unfolding(crate::specs::Lines::current_line))]
-pub(crate) fn put_settled(buf: &mut [u8], at: usize, head: SettledHead) -> usize
-    requires { at + 247 ≤ length buf.old }
-    ensures wrote { Wrote buf.old buf.new at result (current_line (CurrentHead.Settled head)) }
-    ensures upper_bound { result ≤ at + 247 }
+pub(crate) fn put_settled(out: &mut TextWriter<'_>, head: SettledHead)
+    requires { Room out.old 247 }
+    ensures { Puts out.old out.new 247 (current_line (CurrentHead.Settled head)) }
 {
-    let report = head.report;
-    let i = put(buf, at, b"(current settled ");
-    let j = put_delivery(buf, i, head.delivery);
-    put_told(buf, j, report)
+    out.text(b"(current settled ");
+    put_delivery(out, head.delivery);
+    put_told(out, head.report);
 }
 
-#[tactic(auto, unfolding(crate::specs::Lines::current_line))]
-pub(crate) fn put_current(buf: &mut [u8], at: usize, current: CurrentHead) -> usize
-    requires { at + 247 ≤ length buf.old }
-    ensures wrote { Wrote buf.old buf.new at result (current_line current) }
-    ensures upper_bound { result ≤ at + 247 }
+pub(crate) fn put_current(out: &mut TextWriter<'_>, current: CurrentHead)
+    requires { Room out.old 247 }
+    ensures { Puts out.old out.new 247 (current_line current) }
 {
     match current {
-        CurrentHead::Absent => put(buf, at, b"(current none)\n"),
-        CurrentHead::Unclaimed(head) => put_unclaimed(buf, at, head),
-        CurrentHead::Preparing(head) => put_preparing(buf, at, head),
-        CurrentHead::Settled(head) => put_settled(buf, at, head),
+        CurrentHead::Absent => out.text(b"(current none)\n"),
+        CurrentHead::Unclaimed(head) => put_unclaimed(out, head),
+        CurrentHead::Preparing(head) => put_preparing(out, head),
+        CurrentHead::Settled(head) => put_settled(out, head),
     }
 }
 
 // Puts the lines from the counters' to the superseded anchor's.
 pub fn put_count_to_superseded(
-    buf: &mut [u8],
-    at: usize,
+    out: &mut TextWriter<'_>,
     stats: HeadStats,
     epoch: Epoch,
     current: CurrentHead,
-    superseded: AnchorSlot,
-) -> usize
-    requires { at + 545 ≤ length buf.old }
-    ensures wrote { Wrote buf.old buf.new at result (count_line stats epoch ++ (current_line current ++ superseded_line superseded)) }
-    ensures upper_bound { result ≤ at + 545 }
+    superseded: Option<ReadAnchor>,
+)
+    requires { Room out.old 545 }
+    ensures { Puts out.old out.new 545 (count_line stats epoch ++ (current_line current ++ superseded_line superseded)) }
 {
-    let i = put_count(buf, at, stats, epoch);
-    let j = put_current(buf, i, current);
-    put_superseded(buf, j, superseded)
+    put_count(out, stats, epoch);
+    put_current(out, current);
+    put_superseded(out, superseded);
 }

@@ -8,8 +8,6 @@ use mathlib.Core.Path.{◌≡◌, ap}
 use lib.ListN.{get_or, length, take}
 use lib.Seq.{take_all}
 use Rattle.sheet_lines.specs.Lines.{waiter_line, waiter_lines}
-use Rattle.text.proofs.Writes.{then}
-use Rattle.text.specs.Writes.{Wrote}
 use Rattle.head_attempt.specs.declared.WaiterSlot.{WaiterSlot}
 
 one_more : (ss : List WaiterSlot) (n i : ℕ) (d : WaiterSlot) → i < length ss → waiter_lines n (take (suc i) ss) ≡ waiter_lines n (take i ss) ++ waiter_line (n + i) (get_or ss i d).waiter
@@ -19,10 +17,10 @@ one_more (s ∷ ss) n zero d h = rw add-zero (append-nil (waiter_line n s.waiter
 one_more (s ∷ ss) n (suc i) d h = rw (append_assoc, add-suc, ← suc-add n i) (ap (λ (r : List ℕ). waiter_line n s.waiter ++ r) (one_more ss (suc n) i d (le_of_suc-le-suc h)))
 
 module _ (ss : List WaiterSlot) (i : ℕ) where
-  pub waiters_more : (d : WaiterSlot) {a b c : List ℕ} {at j k : ℕ} → i < length ss → Wrote a b at j (waiter_lines 0 (take i ss)) → Wrote b c j k (waiter_line i (get_or ss i d).waiter) → Wrote a c at k (waiter_lines 0 (take (i + 1) ss))
-  waiters_more d h p q =
+  pub waiters_more : (d : WaiterSlot) → i < length ss → waiter_lines 0 (take i ss) ++ waiter_line i (get_or ss i d).waiter ≡ waiter_lines 0 (take (i + 1) ss)
+  waiters_more d h =
       let e : 0 + i ≡ i = omega arith in
-      rw (add-one i, one_more ss 0 i d h, e) (then p q)
+      rw (add-one i, one_more ss 0 i d h, e)
 
-  pub waiters_all : {a b : List ℕ} {at j : ℕ} → length ss ≤ i → Wrote a b at j (waiter_lines 0 (take i ss)) → Wrote a b at j (waiter_lines 0 ss)
-  waiters_all h p = rw (take_all i ss h) at p
+  pub waiters_all : length ss ≤ i → waiter_lines 0 (take i ss) ≡ waiter_lines 0 ss
+  waiters_all h = rw (take_all i ss h)

@@ -6,55 +6,55 @@ use native.Mathlib.Decide.{dec_lt}
 use mathlib.Core.Logic.{by_cases}
 use mathlib.Core.Path.{◌≡◌, refl, ap, sym, ◌∙◌}
 use mathlib.Core.List.{List, [], ◌∷◌}
-use lib.ListN.{length, drop, get_or}
+use lib.ListN.{length}
 use borrow.Author.Tests.{lt-ltb, le-ltb, le-leb}
+use Rattle.std.specs.Prelude.{Option, Some, None}
 use Rattle.text.specs.Words.{run}
 use Rattle.text.specs.Decimals.{decimal, decimal_on, digit, more, number}
 use Rattle.text.specs.Digits.{read_on}
-use Rattle.text.specs.declared.decimal.Number.{Number}
 use Rattle.text.proofs.Words.{run_cons, in_word_above}
 use Rattle.text.proofs.Digits.{bad_stays}
 
 -- ---- one byte
 
-pub digit_value : (b : ℕ) → 48 ≤ b → b ≤ 57 → digit b ≡ Number.Value (b - 48)
+pub digit_value : (b : ℕ) → 48 ≤ b → b ≤ 57 → digit b ≡ Some (b - 48)
 unfolding digit
 digit_value b p q = simp (le-leb 48 b p, le-leb b 57 q)
 
-pub more_value : (n b : ℕ) → 48 ≤ b → b ≤ 57 → 0 < n → n * 10 + (b - 48) < 2 ^ 64 → more (Number.Value n) b ≡ Number.Value (n * 10 + (b - 48))
+pub more_value : (n b : ℕ) → 48 ≤ b → b ≤ 57 → 0 < n → n * 10 + (b - 48) < 2 ^ 64 → more (Some n) b ≡ Some (n * 10 + (b - 48))
 unfolding more
 more_value n b p q z r = simp (le-leb 48 b p, le-leb b 57 q, lt-ltb 0 n z, lt-ltb (n * 10 + (b - 48)) (2 ^ 64) r)
 
-pub more_over : (n b : ℕ) → 48 ≤ b → b ≤ 57 → 0 < n → 2 ^ 64 ≤ n * 10 + (b - 48) → more (Number.Value n) b ≡ Number.Bad
+pub more_over : (n b : ℕ) → 48 ≤ b → b ≤ 57 → 0 < n → 2 ^ 64 ≤ n * 10 + (b - 48) → more (Some n) b ≡ None
 unfolding more
 more_over n b p q z r = simp (le-leb 48 b p, le-leb b 57 q, lt-ltb 0 n z, le-ltb (n * 10 + (b - 48)) (2 ^ 64) r)
 
-pub more_bad : (b : ℕ) → more Number.Bad b ≡ Number.Bad
+pub more_bad : (b : ℕ) → more None b ≡ None
 unfolding more
 more_bad b = refl
 
 -- ---- where the loop of `read_decimal` begins
 
-pub read_none : (s : List ℕ) → length s ≡ 0 → Number.Bad ≡ number s
+pub read_none : (s : List ℕ) → length s ≡ 0 → None ≡ number s
 unfolding number
 read_none [] h = refl
 read_none (b ∷ s) h = absurd (omega arith)
 
-pub read_start : (s : List ℕ) (q r : Number) → (length s ≡ 0 → ⊥) → q ≡ digit (get_or s 0 0) → q ≡ r → read_on more r (drop 1 s) ≡ number s
-unfolding number
-read_start [] q r h e f = absurd (h refl)
-read_start (b ∷ s) q r h e f = rw (← f, e)
+module _ (s t : List ℕ) (b : ℕ) (e : s ≡ b ∷ t) (q : Option ℕ) (f : q ≡ digit b) where
+  pub read_start : (r : Option ℕ) → q ≡ r → read_on more r t ≡ number s
+  unfolding number
+  read_start r g = rw (e, ← f, g)
 
-pub read_bad : (s : List ℕ) (q : Number) → (length s ≡ 0 → ⊥) → q ≡ digit (get_or s 0 0) → q ≡ Number.Bad → Number.Bad ≡ number s
-read_bad s q h e f = sym (bad_stays more more_bad (drop 1 s)) ∙ read_start s q Number.Bad h e f
+  pub read_bad : q ≡ None → None ≡ number s
+  read_bad g = sym (bad_stays more more_bad t) ∙ read_start None g
 
 -- ---- what was written is read back, and what follows it is read on
 
-read_last : (n : ℕ) (s : List ℕ) → n < 10 → number ((48 + n) ∷ s) ≡ read_on more (Number.Value n) s
+read_last : (n : ℕ) (s : List ℕ) → n < 10 → number ((48 + n) ∷ s) ≡ read_on more (Some n) s
 unfolding number
 read_last n s p = let e : 48 + n - 48 ≡ n = omega arith in rw (digit_value (48 + n) (omega arith) (omega arith), e)
 
-read-decimal_on : (k n : ℕ) (s : List ℕ) → n < 10 ^ suc k → n < 2 ^ 64 → number (decimal_on (suc k) n s) ≡ read_on more (Number.Value n) s
+read-decimal_on : (k n : ℕ) (s : List ℕ) → n < 10 ^ suc k → n < 2 ^ 64 → number (decimal_on (suc k) n s) ≡ read_on more (Some n) s
 unfolding decimal_on read_on
 read-decimal_on zero n s h l = rw (lt-ltb n 10 h) (read_last n s h)
 read-decimal_on (suc k) n s h l =
@@ -65,9 +65,9 @@ read-decimal_on (suc k) n s h l =
     let e : n / 10 * 10 + (48 + n % 10 - 48) ≡ n = omega arith in
     rw (le-ltb n 10 (omega arith))
     (read-decimal_on k (n / 10) ((48 + n % 10) ∷ s) (omega arith) (omega arith)
-    ∙ ap (λ (r : Number). read_on more r s) (more_value (n / 10) (48 + n % 10) (omega arith) (omega arith) (omega arith) (omega arith) ∙ ap Number.Value e)))
+    ∙ ap (λ (r : Option ℕ). read_on more r s) (more_value (n / 10) (48 + n % 10) (omega arith) (omega arith) (omega arith) (omega arith) ∙ ap Some e)))
 
-pub read-decimal : (n : ℕ) → n < 2 ^ 64 → number (decimal n) ≡ Number.Value n
+pub read-decimal : (n : ℕ) → n < 2 ^ 64 → number (decimal n) ≡ Some n
 unfolding decimal read_on
 read-decimal n h = read-decimal_on 19 n [] (omega arith) h
 

@@ -8,11 +8,11 @@ use mathlib.Core.Logic.{by_cases}
 use mathlib.Core.Path.{◌≡◌, refl, sym, ◌∙◌}
 use mathlib.Core.List.{List, [], ◌∷◌, ◌++◌}
 use borrow.Author.Tests.{lt-ltb, le-ltb, le-leb, lt-leb}
+use Rattle.std.specs.Prelude.{Option, Some, None}
 use Rattle.text.specs.Decimals.{decimal, decimal_on, digit, more, number}
 use Rattle.text.specs.Digits.{read_on}
 use Rattle.text.specs.Rests.{Rest, word_here, past_word, number_got, read_number}
-use Rattle.text.specs.declared.decimal.Number.{Number}
-use Rattle.text.proofs.Digits.{clash, bad_stays, taken}
+use Rattle.text.proofs.Digits.{bad_stays, taken}
 use Rattle.text.proofs.DecimalRead.{digit_value, more_value, more_over, more_bad}
 
 -- ---- one more digit is one more byte of text
@@ -55,43 +55,67 @@ one_decimal d h = one_digit 19 d [] h
 
 -- ---- a byte that is taken
 
-digit_low : (b : ℕ) → b < 48 → digit b ≡ Number.Bad
+pub digit_low : (b : ℕ) → b < 48 → digit b ≡ None
 unfolding digit
 digit_low b h = rw (lt-leb 48 b h)
 
-digit_high : (b : ℕ) → 57 < b → digit b ≡ Number.Bad
+pub digit_high : (b : ℕ) → 57 < b → digit b ≡ None
 unfolding digit
 digit_high b h = simp (le-leb 48 b (omega arith), lt-leb b 57 h)
 
-digit_is : (b d : ℕ) → digit b ≡ Number.Value d → (d < 10) × (b ≡ 48 + d)
+digit_is : (b d : ℕ) → digit b ≡ Some d → (d < 10) × (b ≡ 48 + d)
 digit_is b d e =
-    by_cases (dec_lt b 48) (λ h. absurd (clash d (sym (digit_low b h) ∙ e))) (λ h.
-    by_cases (dec_lt 57 b) (λ g. absurd (clash d (sym (digit_high b g) ∙ e))) (λ g.
+    by_cases (dec_lt b 48) (λ h. cc (digit_low b h)) (λ h.
+    by_cases (dec_lt 57 b) (λ g. cc (digit_high b g)) (λ g.
     let f = digit_value b (omega arith) (omega arith) in
     let z : d ≡ b - 48 = cc in
     (omega arith, omega arith)))
 
-more_low : (n b : ℕ) → b < 48 → more (Number.Value n) b ≡ Number.Bad
+more_low : (n b : ℕ) → b < 48 → more (Some n) b ≡ None
 unfolding more
 more_low n b h = rw (lt-leb 48 b h)
 
-more_high : (n b : ℕ) → 57 < b → more (Number.Value n) b ≡ Number.Bad
+more_high : (n b : ℕ) → 57 < b → more (Some n) b ≡ None
 unfolding more
 more_high n b h = simp (le-leb 48 b (omega arith), lt-leb b 57 h)
 
-more_zero : (n b : ℕ) → 48 ≤ b → b ≤ 57 → n ≤ 0 → more (Number.Value n) b ≡ Number.Bad
+more_zero : (n b : ℕ) → 48 ≤ b → b ≤ 57 → n ≤ 0 → more (Some n) b ≡ None
 unfolding more
 more_zero n b p q h = simp (le-leb 48 b p, le-leb b 57 q, le-ltb 0 n h)
+
+-- ---- a byte after a number, by what it says as a digit
+
+pub more_no_digit : (n b : ℕ) → digit b ≡ None → None ≡ more (Some n) b
+more_no_digit n b e =
+    by_cases (dec_lt b 48) (λ h. sym (more_low n b h)) (λ h.
+    by_cases (dec_lt 57 b) (λ g. sym (more_high n b g)) (λ g.
+    let d = digit_value b (omega arith) (omega arith) in cc))
+
+module _ (n b d : ℕ) (e : digit b ≡ Some d) where
+  pub more_after_zero : n ≡ 0 → None ≡ more (Some n) b
+  more_after_zero h = let a = digit_is b d e in sym (more_zero n b (omega arith) (omega arith) (omega arith))
+
+  pub more_digit : 0 < n → n * 10 + d < 2 ^ 64 → Some (n * 10 + d) ≡ more (Some n) b
+  more_digit h r =
+      let a = digit_is b d e in
+      let f : b - 48 ≡ d = omega arith in
+      rw (← f) (sym (more_value n b (omega arith) (omega arith) h (omega arith)))
+
+  pub more_too_large : 0 < n → 2 ^ 64 ≤ n * 10 + d → None ≡ more (Some n) b
+  more_too_large h r =
+      let a = digit_is b d e in
+      let f : b - 48 ≡ d = omega arith in
+      sym (more_over n b (omega arith) (omega arith) h (omega arith))
 
 -- the text of a number below 2^64
 unfoldable Said : List ℕ → ℕ → Type 0
 Said s n = (s ≡ decimal n) × (n < 2 ^ 64)
 
-more_said : (p : List ℕ) (n b m : ℕ) → Said p n → more (Number.Value n) b ≡ Number.Value m → Said (p ++ (b ∷ [])) m
+more_said : (p : List ℕ) (n b m : ℕ) → Said p n → more (Some n) b ≡ Some m → Said (p ++ (b ∷ [])) m
 unfolding Said
 more_said p n b m h e =
-    by_cases (dec_lt b 48) (λ u. absurd (clash m (sym (more_low n b u) ∙ e))) (λ u.
-    by_cases (dec_lt 57 b) (λ v. absurd (clash m (sym (more_high n b v) ∙ e))) (λ v.
+    by_cases (dec_lt b 48) (λ u. cc (more_low n b u)) (λ u.
+    by_cases (dec_lt 57 b) (λ v. cc (more_high n b v)) (λ v.
     by_cases (dec_lt 0 n) (λ w.
     by_cases (dec_lt (n * 10 + (b - 48)) (2 ^ 64))
     (λ x.
@@ -99,17 +123,17 @@ more_said p n b m h e =
     let y : n * 10 + (b - 48) ≡ m = cc in
     let c : 48 + (b - 48) ≡ b = omega arith in
     (rw (← y, decimal_more n (b - 48) w (omega arith) x, c, ← h.0), omega arith))
-    (λ x. absurd (clash m (sym (more_over n b (omega arith) (omega arith) w (omega arith)) ∙ e))))
-    (λ w. absurd (clash m (sym (more_zero n b (omega arith) (omega arith) (omega arith)) ∙ e)))))
+    (λ x. cc (more_over n b (omega arith) (omega arith) w (omega arith))))
+    (λ w. cc (more_zero n b (omega arith) (omega arith) (omega arith)))))
 
-pub number_only : (s : List ℕ) (n : ℕ) → number s ≡ Number.Value n → (s ≡ decimal n) × (n < 2 ^ 64)
+pub number_only : (s : List ℕ) (n : ℕ) → number s ≡ Some n → (s ≡ decimal n) × (n < 2 ^ 64)
 unfolding number Said
-number_only [] n e = absurd (clash n e)
+number_only [] n e = cc
 number_only (b ∷ s) n e = go (digit b) refl e
   where
-    go : (r : Number) → digit b ≡ r → read_on more r s ≡ Number.Value n → (b ∷ s ≡ decimal n) × (n < 2 ^ 64)
-    go Number.Bad f g = absurd (clash n (sym (bad_stays more more_bad s) ∙ g))
-    go (Number.Value d) f g =
+    go : (r : Option ℕ) → digit b ≡ r → read_on more r s ≡ Some n → (b ∷ s ≡ decimal n) × (n < 2 ^ 64)
+    go None f g = cc (bad_stays more more_bad s)
+    go (Some d) f g =
         let a = digit_is b d f in
         taken more more_bad Said more_said s (b ∷ []) d n (rw a.1 (sym (one_decimal d a.0)), omega arith) g
 
@@ -117,6 +141,6 @@ pub number_range : (r : Rest) → (read_number r).value < 2 ^ 64
 unfolding read_number number_got
 number_range r = go (number (word_here r)) refl
   where
-    go : (m : Number) → number (word_here r) ≡ m → (number_got m (past_word r)).value < 2 ^ 64
-    go (Number.Value n) e = (number_only (word_here r) n e).1
-    go Number.Bad e = omega arith
+    go : (m : Option ℕ) → number (word_here r) ≡ m → (number_got m (past_word r)).value < 2 ^ 64
+    go (Some n) e = (number_only (word_here r) n e).1
+    go None e = omega arith

@@ -1,42 +1,32 @@
--- Words, and the loop of `next_word`.
-use Prim.Native.Nat.{ℕ, suc, ◌+◌, ◌-◌, ◌≤◌, ◌<◌}
-use native.Mathlib.Nat.{le_of_lt}
-use native.Mathlib.Numerals.{add-one}
+-- Words.
+use Prim.Native.Nat.{ℕ, suc, ◌+◌, ◌<◌}
 use native.Mathlib.Omega.{arith}
-use mathlib.Core.Path.{◌≡◌, refl}
-use mathlib.Core.Bool.{Bool, true, false, not}
+use mathlib.Core.Path.{◌≡◌, refl, sym}
+use mathlib.Core.Bool.{Bool, true, false, cond}
+use Rattle.std.specs.List.{prefix_len}
+use Rattle.std.proofs.lemmas.List.Folds.{length-prefix_len}
 use mathlib.Core.List.{List, [], ◌∷◌, ◌++◌}
-use lib.ListN.{length, take, drop, get_or, drop_of_length-le}
-use lib.Seq.{drop-cons, take-append_seam}
-use borrow.Author.Tests.{ne_eqb, not-true, not-false}
-use Rattle.hash.specs.Logic.{if}
+use lib.ListN.{length, take}
+use lib.Seq.{take-append_seam}
+use borrow.Author.Tests.{ne_eqb}
 use Rattle.text.specs.Words.{in_word, run, word}
 
--- ---- the loop: from `end` on as many bytes are left of the word as are left of it from `at` on
+-- the library's count of the bytes in front that pass a test
+pub run_is : (s : List ℕ) → prefix_len in_word s ≡ run s
+unfolding run
+run_is [] = refl
+run_is (b ∷ s) = go (in_word b) (run_is s)
+  where
+    go : (t : Bool) → prefix_len in_word s ≡ run s → cond t (1 + prefix_len in_word s) 0 ≡ cond t (suc (run s)) 0
+    go true e = rw e (omega arith)
+    go false e = refl
 
-module _ (l : List ℕ) (at : ℕ) where
-  pub word_past : length l < at → take (0 - 0) (drop 0 l) ≡ word (drop at l)
-  unfolding run word
-  word_past h = rw (drop_of_length-le l {i = at} (le_of_lt h))
+pub word_is : (s : List ℕ) (n : ℕ) → n ≡ prefix_len in_word s → take n s ≡ word s
+unfolding word
+word_is s n e = rw (e, run_is s)
 
-  module _ (end : ℕ) (k : end + run (drop end l) ≡ at + run (drop at l)) where
-    pub word_more : (t : Bool) → end < length l → t ≡ in_word (get_or l end 0) → not t ≡ false → end + 1 + run (drop (end + 1) l) ≡ at + run (drop at l)
-    unfolding run
-    word_more t h f g =
-        let e : run (drop end l) ≡ suc (run (drop (end + 1) l)) = rw (drop-cons l end 0 h, ← f, not-false t g, add-one end) in
-        omega arith
-
-    ends : run (drop end l) ≡ 0 → take (end - at) (drop at l) ≡ word (drop at l)
-    unfolding word
-    ends e = let z : end - at ≡ run (drop at l) = omega arith in rw z
-
-    pub word_stop : (t : Bool) → end < length l → t ≡ in_word (get_or l end 0) → not t ≡ true → take (end - at) (drop at l) ≡ word (drop at l)
-    unfolding run
-    word_stop t h f g = ends (rw (drop-cons l end 0 h, ← f, not-true t g))
-
-    pub word_last : length l ≤ end → take (end - at) (drop at l) ≡ word (drop at l)
-    unfolding run
-    word_last h = ends (rw (drop_of_length-le l h))
+pub run_inside : (s : List ℕ) (n : ℕ) → n ≡ prefix_len in_word s → n ≡ length (take n s)
+run_inside s n e = rw e (sym (length-prefix_len in_word s))
 
 -- ---- a text of word bytes alone is one word: its run is all of it
 
@@ -44,7 +34,7 @@ run_tail : (b : ℕ) (s : List ℕ) → run (b ∷ s) ≡ suc (length s) → (in
 unfolding run
 run_tail b s e = go (in_word b) e
   where
-    go : (t : Bool) → if t (suc (run s)) 0 ≡ suc (length s) → (t ≡ true) × (run s ≡ length s)
+    go : (t : Bool) → cond t (suc (run s)) 0 ≡ suc (length s) → (t ≡ true) × (run s ≡ length s)
     go true h = (refl, omega arith)
     go false h = absurd (omega arith)
 

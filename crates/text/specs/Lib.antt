@@ -6,5 +6,4 @@ pub mod Ascii
 pub mod Same
 pub mod Digits
 pub mod Rests
-pub mod Places
 pub mod Writes

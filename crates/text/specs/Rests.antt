@@ -1,10 +1,8 @@
 -- Reading a line from its front, with a failure that stays.
-use Rattle.std.specs.Prelude.{ℕ, Bool, true, false, List, [], ◌∷◌, length, drop, eqb, leb}
-use Rattle.hash.specs.Logic.{if}
+use Rattle.std.specs.Prelude.{ℕ, Bool, true, false, List, [], ◌∷◌, length, drop, eqb, leb, Option, Some, None, cond}
 use Rattle.text.specs.Words.{word}
 use Rattle.text.specs.Same.{same_text}
 use Rattle.text.specs.Decimals.{number}
-use Rattle.text.specs.declared.decimal.Number.{Number}
 
 -- what is still to be read, or that reading stopped, which stays
 pub data Rest : Type 0 where
@@ -22,7 +20,7 @@ pub record Took (A : Type 0) : Type 0 where
 unfoldable pub after_byte : ℕ → Rest → Rest
 after_byte b stopped = stopped
 after_byte b (at []) = stopped
-after_byte b (at (c ∷ s)) = if (eqb c b) (at s) stopped
+after_byte b (at (c ∷ s)) = cond (eqb c b) (at s) stopped
 
 -- the rest after the text k
 unfoldable pub after : List ℕ → Rest → Rest
@@ -42,7 +40,7 @@ says k r = same_text (word_here r) k
 
 -- the rest after n bytes
 unfoldable pub past : ℕ → Rest → Rest
-past n (at s) = if (leb n (length s)) (at (drop n s)) stopped
+past n (at s) = cond (leb n (length s)) (at (drop n s)) stopped
 past n stopped = stopped
 
 -- the rest after the word
@@ -57,9 +55,9 @@ at_end stopped = false
 
 -- ---- numbers, each one word
 
-unfoldable pub number_got : Number → Rest → Took ℕ
-number_got (Number.Value n) next = record { value = n; next = next }
-number_got Number.Bad next = record { value = 0; next = stopped }
+unfoldable pub number_got : Option ℕ → Rest → Took ℕ
+number_got (Some n) next = record { value = n; next = next }
+number_got None next = record { value = 0; next = stopped }
 
 unfoldable pub read_number : Rest → Took ℕ
 read_number r = number_got (number (word_here r)) (past_word r)

@@ -1,2 +1,2 @@
--- Fill: a store into a row of digits.
-pub mod Fill
+-- For users: texts put one after another.
+pub mod Writers

@@ -1,4 +1,5 @@
 -- How long a value's text can be, whatever its numbers.
+use Rattle.std.specs.Prelude.{Option, None, Some}
 use Prim.Native.Nat.{◌≤◌}
 use native.Mathlib.Omega.{arith}
 use mathlib.Core.Path.{◌≡◌}
@@ -6,9 +7,7 @@ use lib.ListN.{length, length-append}
 use Rattle.hash.specs.declared.Hash.{Hash}
 use Rattle.hash_text.proofs.Back.{length_line_hash, length_sheet_hash}
 use Rattle.head_anchor.specs.Values.{block_hash_value, skip_value, slot_value}
-use Rattle.head_anchor.specs.declared.AnchorSlot.{AnchorSlot}
 use Rattle.head_anchor.specs.declared.BalSkip.{BalSkip}
-use Rattle.head_anchor.specs.declared.BlockHash.{BlockHash}
 use Rattle.head_anchor.specs.declared.ReadAnchor.{ReadAnchor}
 use Rattle.text.proofs.Back.{length-decimal}
 use Rattle.value_text.specs.Texts.{anchor_text, block_hash_text, skip_text, slot_text}
@@ -22,18 +21,18 @@ unfolding hash_text
 hash_length Page.Line h = length_line_hash h
 hash_length Page.Sheet h = length_sheet_hash h
 
-block_hash_most : (p : Page) (h : BlockHash) → length (block_hash_text p h) ≤ 64
+block_hash_most : (p : Page) (h : Option Hash) → length (block_hash_text p h) ≤ 64
 unfolding block_hash_text block_hash_value value_text word_text
-block_hash_most p BlockHash.Unknown = omega arith
-block_hash_most p (BlockHash.Known h) = omega (arith, hash_length p h)
+block_hash_most p None = omega arith
+block_hash_most p (Some h) = omega (arith, hash_length p h)
 
 pub anchor_most : (p : Page) (a : ReadAnchor) → length (anchor_text p a) ≤ 87
 anchor_most p a = rw (anchor_form p a) (simp length-append (omega (arith, length-decimal a.number, block_hash_most p a.hash)))
 
-pub slot_most : (p : Page) (s : AnchorSlot) → length (slot_text p s) ≤ 87
+pub slot_most : (p : Page) (s : Option ReadAnchor) → length (slot_text p s) ≤ 87
 unfolding slot_text slot_value anchor_text value_text word_text
-slot_most p AnchorSlot.Nothing = omega arith
-slot_most p (AnchorSlot.At a) = anchor_most p a
+slot_most p None = omega arith
+slot_most p (Some a) = anchor_most p a
 
 pub skip_most : (x : BalSkip) → length (skip_text x) ≤ 29
 unfolding skip_text skip_value value_text word_text

@@ -1,16 +1,13 @@
 -- Document 01, "Lines" and "The sheet": an anchor A is `(NUMBER HASH)` or `(NUMBER none)`; a skip X is `none`, `no-hash`, `(rpc N)` or `(decode N)`; single
 -- spaces. Read from the front of a text, with a failure that stays.
-use Rattle.std.specs.Prelude.{ℕ, List}
-use Rattle.hash.specs.Logic.{if}
+use Rattle.std.specs.Prelude.{ℕ, List, Option, Some, None, cond}
+use Rattle.hash.specs.declared.Hash.{Hash}
 use Rattle.hash_text.specs.LineHashes.{line_hash}
 use Rattle.hash_text.specs.SheetHashes.{sheet_hash}
 use Rattle.head_anchor.specs.Words.{Word}
 use Rattle.text.specs.Ascii.{ascii}
 use Rattle.text.specs.Rests.{Rest, stopped, Took, after, word_here, says, past_word, read_number}
-use Rattle.hash_text.specs.declared.HashWord.{HashWord}
 use Rattle.head_anchor.specs.declared.BalSkip.{BalSkip}
-use Rattle.head_anchor.specs.declared.AnchorSlot.{AnchorSlot}
-use Rattle.head_anchor.specs.declared.BlockHash.{BlockHash}
 use Rattle.head_anchor.specs.declared.ReadAnchor.{ReadAnchor}
 use Rattle.value_text.specs.Words.{word_text}
 use Rattle.value_text.specs.declared.page.Page.{Page}
@@ -22,7 +19,7 @@ got x r = record { value = x; next = r }
 
 -- the word k says x; another word is left to the next reader
 unfoldable pub or_word : {A : Type 0} → List ℕ → A → Rest → Took A → Took A
-or_word k x r other = if (says k r) (got x (past_word r)) other
+or_word k x r other = cond (says k r) (got x (past_word r)) other
 
 unfoldable pub map : {A B : Type 0} → (A → B) → Took A → Took B
 map f t = got (f t.value) t.next
@@ -34,18 +31,18 @@ then k t = got t.value (after k t.next)
 -- ---- anchors
 
 -- the hash that a word says, on a line and on a sheet
-unfoldable pub hash_said : Page → List ℕ → HashWord
+unfoldable pub hash_said : Page → List ℕ → Option Hash
 hash_said Page.Line w = line_hash w
 hash_said Page.Sheet w = sheet_hash w
 
 -- that hash, and the rest after the word
-unfoldable pub block_hash_got : HashWord → Rest → Took BlockHash
-block_hash_got (HashWord.Value h) next = got (BlockHash.Known h) next
-block_hash_got HashWord.Bad next = got BlockHash.Unknown stopped
+unfoldable pub block_hash_got : Option Hash → Rest → Took (Option Hash)
+block_hash_got (Some h) next = got (Some h) next
+block_hash_got None next = got None stopped
 
 -- HASH or `none`
-unfoldable pub read_block_hash : Page → Rest → Took BlockHash
-read_block_hash p r = or_word (word_text Word.none) BlockHash.Unknown r (block_hash_got (hash_said p (word_here r)) (past_word r))
+unfoldable pub read_block_hash : Page → Rest → Took (Option Hash)
+read_block_hash p r = or_word (word_text Word.none) None r (block_hash_got (hash_said p (word_here r)) (past_word r))
 
 -- `(NUMBER HASH)` or `(NUMBER none)`
 unfoldable pub read_anchor : Page → Rest → Took ReadAnchor
@@ -55,8 +52,8 @@ read_anchor p r =
     got (record { number = n.value; hash = h.value }) (after (ascii ")") h.next)
 
 -- an anchor or `none`
-unfoldable pub read_slot : Page → Rest → Took AnchorSlot
-read_slot p r = or_word (word_text Word.none) AnchorSlot.Nothing r (map AnchorSlot.At (read_anchor p r))
+unfoldable pub read_slot : Page → Rest → Took (Option ReadAnchor)
+read_slot p r = or_word (word_text Word.none) None r (map Some (read_anchor p r))
 
 -- ---- skips
 
@@ -68,9 +65,9 @@ spaced_number r = read_number (after (ascii " ") r)
 unfoldable pub read_failure : Rest → Took BalSkip
 read_failure r =
     let n = spaced_number (past_word r) in
-    if (says (word_text Word.rpc) r)
+    cond (says (word_text Word.rpc) r)
     (then (ascii ")") (map BalSkip.Rpc n))
-    (if (says (word_text Word.decode) r)
+    (cond (says (word_text Word.decode) r)
     (then (ascii ")") (map BalSkip.Decode n))
     (got BalSkip.Nothing stopped))
 

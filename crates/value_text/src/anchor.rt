@@ -1,37 +1,34 @@
 // Anchors as text.
-ghost use Rattle.std.specs.Prelude.{◌+◌, ◌≤◌, length};
+#![tactic(auto, using(text_put::proofs::Writers::wrote_both), unfolding(crate::specs::Texts::block_hash_text, head_anchor::specs::Values::block_hash_value, crate::specs::Values::value_text, crate::specs::Words::word_text, crate::specs::Texts::anchor_text, head_anchor::specs::Values::anchor_value))]
+
 ghost use Rattle.value_text.specs.Texts.{block_hash_text, anchor_text};
-ghost use Rattle.text.specs.Writes.{Wrote};
+ghost use Rattle.text_put.specs.Writers.{Puts, Room};
 
 use crate::page::{Page, put_hash_on};
-use head_anchor::{BlockHash, ReadAnchor};
+use hash::Hash;
+use head_anchor::ReadAnchor;
 use number_text::put_decimal;
-use text_put::put::{put, put_byte};
+use text_put::TextWriter;
 
-// Puts an anchor's hash, or `none`.
-#[tactic(auto, unfolding(crate::specs::Texts::block_hash_text, head_anchor::specs::Values::block_hash_value, crate::specs::Values::value_text, crate::specs::Words::word_text))]
-pub(crate) fn put_block_hash(buf: &mut [u8], at: usize, page: Page, hash: BlockHash) -> usize
-    requires { at + 64 ≤ length buf.old }
-    ensures wrote { Wrote buf.old buf.new at result (block_hash_text page hash) }
-    ensures upper_bound { result ≤ at + 64 }
+// Puts an anchor's hash, or `none`: two lines, as for each value that may be absent, where a writer handed in would take as many.
+pub(crate) fn put_block_hash(out: &mut TextWriter<'_>, page: Page, hash: Option<Hash>)
+    requires { Room out.old 64 }
+    ensures { Puts out.old out.new 64 (block_hash_text page hash) }
 {
     match hash {
-        BlockHash::Unknown => put(buf, at, b"none"),
-        BlockHash::Known(known) => put_hash_on(buf, at, page, known),
+        None => out.text(b"none"),
+        Some(known) => put_hash_on(out, page, known),
     }
 }
 
 // Puts `(NUMBER HASH)` or `(NUMBER none)`.
-#[tactic(auto, unfolding(crate::specs::Texts::anchor_text, head_anchor::specs::Values::anchor_value, crate::specs::Texts::block_hash_text, crate::specs::Values::value_text, crate::specs::Words::word_text))]
-pub fn put_anchor(buf: &mut [u8], at: usize, page: Page, anchor: ReadAnchor) -> usize
-    requires { at + 87 ≤ length buf.old }
-    ensures wrote { Wrote buf.old buf.new at result (anchor_text page anchor) }
-    ensures upper_bound { result ≤ at + 87 }
+pub fn put_anchor(out: &mut TextWriter<'_>, page: Page, anchor: ReadAnchor)
+    requires { Room out.old 87 }
+    ensures { Puts out.old out.new 87 (anchor_text page anchor) }
 {
-    let hash = anchor.hash;
-    let i = put_byte(buf, at, b'(');
-    let j = put_decimal(buf, i, anchor.number);
-    let k = put_byte(buf, j, b' ');
-    let l = put_block_hash(buf, k, page, hash);
-    put_byte(buf, l, b')')
+    out.byte(b'(');
+    put_decimal(out, anchor.number);
+    out.byte(b' ');
+    put_block_hash(out, page, anchor.hash);
+    out.byte(b')');
 }

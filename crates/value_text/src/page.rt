@@ -1,10 +1,10 @@
 // Where a value is written. Only the text of a hash depends on it.
-ghost use Rattle.std.specs.Prelude.{◌+◌, ◌≤◌, length};
 ghost use Rattle.value_text.specs.Values.{hash_text};
-ghost use Rattle.text.specs.Writes.{Wrote};
+ghost use Rattle.text_put.specs.Writers.{Puts, Room};
 
 use hash::Hash;
-use hash_text::{put_hash, put_sheet_hash};
+use hash_text::put_hash;
+use text_put::TextWriter;
 
 #[derive(Clone, Copy)]
 pub enum Page {
@@ -14,13 +14,11 @@ pub enum Page {
 
 // Puts a hash as the page has it.
 #[tactic(auto, unfolding(crate::specs::Values::hash_text))]
-pub(crate) fn put_hash_on(buf: &mut [u8], at: usize, page: Page, hash: Hash) -> usize
-    requires { at + 64 ≤ length buf.old }
-    ensures wrote { Wrote buf.old buf.new at result (hash_text page hash) }
-    ensures upper_bound { result ≤ at + 64 }
+pub(crate) fn put_hash_on(out: &mut TextWriter<'_>, page: Page, hash: Hash)
+    requires { Room out.old 64 }
+    ensures { Puts out.old out.new 64 (hash_text page hash) }
 {
     match page {
-        Page::Line => put_hash(buf, at, hash),
-        Page::Sheet => put_sheet_hash(buf, at, hash),
+        Page::Line | Page::Sheet => put_hash(out, hash),
     }
 }

@@ -21,20 +21,18 @@ pub(crate) fn record_view(stats: &mut HeadStats, ready: bool)
 }
 
 // The same of a record by value, which is lent to it. Each view that is counted comes this way.
-pub(crate) fn with_view(stats: HeadStats, ready: bool) -> HeadStats
+pub(crate) fn with_view(mut stats: HeadStats, ready: bool) -> HeadStats
     ensures { result ≡ record_view ready stats }
 {
-    let mut lent = stats;
-    record_view(&mut lent, ready);
-    lent
+    record_view(&mut stats, ready);
+    stats
 }
 
 // The lifecycle after a view of that readiness was answered.
 #[tactic(auto, unfolding(head_life::specs::State::view_counted))]
-pub fn count_view(life: HeadLifecycle, readiness: HeadReadiness) -> HeadLifecycle
+pub fn count_view(mut life: HeadLifecycle, readiness: HeadReadiness) -> HeadLifecycle
     ensures { result ≡ view_counted life readiness }
 {
-    let mut next = life;
-    next.stats = with_view(life.stats, readiness.is_ready());
-    next
+    life.stats = with_view(life.stats, readiness.is_ready());
+    life
 }

@@ -1,7 +1,9 @@
-use Rattle.text.proofs.Writes.{then}
+-- The two lines, the first one's name longer than a search reads.
+use Rattle.std.proofs.Common.{arith}
+use Rattle.text_put.proofs.Writers.{wrote_both}
 use Rattle.sheet_lines.specs.Lines.{installed_line, previous_line}
 use Rattle.sheet_generations.proofs.put_generations.Goals as goal
 
-pub returns-clause-wrote : goal.returns-clause-wrote
+pub returns : goal.returns
 unfolding installed_line previous_line
-returns-clause-wrote c = then c.put_line-i.ensures.wrote c.put_line.ensures.wrote
+returns c = record { wrote = simp (c.put_line-2.ensures.wrote, c.put_line.ensures.wrote, wrote_both); place = omega arith; room = omega arith }

@@ -1,12 +1,11 @@
 -- One more waiter is woken.
-use Rattle.std.proofs.Common.{◌∙◌, arith, add-one}
-use Rattle.std.proofs.Math.ListN.{length-set}
-use Rattle.head_wake.proofs.Wakes.{from_next}
+use Rattle.std.proofs.Common.{arith, rules}
+use Rattle.std.proofs.lemmas.List.{length-set}
+use Rattle.head_wake.proofs.Wakes.{wake_more, wake_all}
 use Rattle.head_wake.proofs.head_lifecycle.wake.Goals as goal
 
-pub loop-i-preserved : goal.loop-i-preserved
-loop-i-preserved c = (
-  omega arith,
-  rw length-set c.loop-i.invariant.1,
-  rw (add-one, c.woken-next.ensures) (from_next _ _ _ _ _ (omega arith) ∙ c.loop-i.invariant.2),
-)
+pub loop-slot-preserved : goal.loop-slot-preserved
+loop-slot-preserved c = (rw length-set c.loop-slot.invariant.0, wake_more _ _ _ _ c.loop-slot.slot-index c.loop-slot.invariant.1 _ _ (omega arith) c.woken.ensures)
+
+pub returns : goal.returns
+returns c = search (rules, wake_all, c.loop-slot.invariant.1)

@@ -16,9 +16,9 @@ line_counted (LineAnswer.Sheet n) p q = absurd (q n refl)
 
 pub returns-in-Said : goal.returns-in-Said
 unfolding answer_length
-returns-in-Said c = puts_line _ _ _ _ _ _ refl c.in-Said.is c.requires c.put_line.ensures c.bytes_written.ensures
+returns-in-Said c = puts_line _ _ _ _ _ _ refl c.in-Said.is c.requires c.put_line.ensures c.unwrap_or.ensures
 
 pub returns-in_default : goal.returns-in_default
 returns-in_default c =
     puts_line _ _ _ _ _ _ (line_counted _ c.in_default.not-Said c.in_default.not-Sheet) refl c.requires c.put_line-in_default.ensures
-    c.bytes_written-in_default.ensures
+    c.unwrap_or-in_default.ensures

@@ -1,2 +1,0 @@
--- What the program's own functions answer.
-pub mod Shown

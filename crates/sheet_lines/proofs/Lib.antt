@@ -1,2 +1,0 @@
--- UnclaimedEnds is the step of a single function.
-pub mod UnclaimedEnds

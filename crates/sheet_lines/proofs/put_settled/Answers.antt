@@ -1,7 +1,0 @@
-use Rattle.text.proofs.Writes.{then}
-use Rattle.sheet_lines.specs.Lines.{current_line}
-use Rattle.sheet_lines.proofs.put_settled.Goals as goal
-
-pub returns-clause-wrote : goal.returns-clause-wrote
-unfolding current_line
-returns-clause-wrote c = then c.put-i.ensures.wrote (then c.put_delivery-j.ensures.wrote c.put_told.ensures.wrote)

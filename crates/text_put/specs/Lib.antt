@@ -1,0 +1,2 @@
+-- Writers, what putting a text does to a writer.
+pub mod Writers
