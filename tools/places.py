@@ -23,18 +23,14 @@ def bare(text):
 
 def items(kind):
     """Each item of a kind (fn, enum, struct): its place, name, head and body."""
+    start = re.compile(r"^\s*\{$|[^{\n]\{$", re.M) if kind == "fn" else re.compile(r"[{(;]")
     for path, text in sources():
         code = bare(text)
         for m in re.finditer(r"\b%s\s+(\w+)" % kind, code):
-            i = code.find("{" if kind != "struct" else "", m.end())
-            if kind == "fn":
-                # the body is the first brace at the start of a line or after the signature
-                i = re.compile(r"(^|\) |> |\w )\{$|^\s*\{$", re.M).search(code, m.end())
-                i = i.end() - 1 if i else -1
-            else:
-                i = re.compile(r"[{(;]").search(code, m.end()).start()
-            if i < 0:
+            begin = start.search(code, m.end())
+            if not begin:
                 continue
+            i = begin.end() - 1
             depth, j = 0, i
             while j < len(code):
                 depth += code[j] in "{("

@@ -1,4 +1,5 @@
 -- Drivers that differ only in what the sheet does not show answer every call alike, and stay so.
+use Rattle.std.proofs.lemmas.Bool.{cond_both}
 use Rattle.std.specs.Prelude.{Option, None, Some, Result, Ok, Err, cond}
 use Rattle.head_ready.specs.declared.Generation.{Generation}
 use Rattle.head_current.specs.declared.DeltaReport.{DeltaReport}
@@ -63,7 +64,7 @@ use Rattle.head_ready.specs.declared.HeadView.{HeadView}
 use Rattle.head_ready.specs.declared.Source.{Source}
 use Rattle.head_call.specs.declared.Call.{Call}
 use Rattle.alike.proofs.KeptOrder.{held_same, nothing_held}
-use Rattle.alike.proofs.Tests.{by_if, by_test, same_holds, true_false}
+use Rattle.alike.proofs.Tests.{by_test, same_holds, true_false}
 use Rattle.alike.specs.Invariant.{Ordered, WhenSettled}
 
 abbrev unclaimed_with : HeadDelivery → ℕ → Epoch → HeadCompletion → CurrentHead
@@ -251,9 +252,9 @@ module _ (i p : Option Generation) (n : Seq) (e : Epoch) (t : HeadStats) (ws : L
     both_plan ticket list handle carried report None q = record { answer = refl; driver = alike w m }
     both_plan ticket list handle carried report (Some held) q =
         let P = SamePlan list.skip handle carried report in
-        by_if P (ticket_of held ticket) _ _
-        (λ b. by_if P (same_anchor list.anchor held.anchor) _ _
-        (λ b. by_if P (holds (slot_anchor i) held.anchor) _ _
+        cond_both (ticket_of held ticket) _ _ P
+        (λ b. cond_both (same_anchor list.anchor held.anchor) _ _ P
+        (λ b. cond_both (holds (slot_anchor i) held.anchor) _ _ P
         (λ b. both_reply _)
         (λ b. record { answer = refl; driver = alike_settled s₁ s₂ w m f held q b _ _ handle report }))
         (λ b. record { answer = refl; driver = alike w m }))

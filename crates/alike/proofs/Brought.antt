@@ -1,4 +1,5 @@
 -- Calls that bring a driver to a known state, where another call then tells what no single call does.
+use Rattle.std.proofs.lemmas.Bool.{cond_both, false_from_ne_true}
 use Rattle.std.specs.Prelude.{Option, None, Some, cond}
 use Rattle.head_ready.specs.declared.Generation.{Generation}
 use Prim.Native.Nat.{ℕ}
@@ -41,7 +42,7 @@ use Rattle.head_call.specs.declared.Call.{Call}
 use Rattle.alike.proofs.KeptOrder.{Settles, head_settles}
 use Rattle.alike.proofs.Poses.{Pose, Unsettled, current_anchor, held_at, installed_anchor, not_installed, pose}
 use Rattle.alike.proofs.Replies.{ticket_ok}
-use Rattle.alike.proofs.Tests.{anchor_same, by_if, eqb_same, is_false, same_anchor_lem}
+use Rattle.alike.proofs.Tests.{anchor_same, eqb_same, same_anchor_lem}
 use Rattle.alike.specs.Invariant.{Ordered}
 use Rattle.head_anchor.specs.Ranges.{AnchorFits, SkipFits}
 use Rattle.hash.specs.Ranges.{Fits, HashFits}
@@ -56,12 +57,12 @@ other m n = cond (eqb m 0) (cond (eqb n 1) 2 1) (cond (eqb n 0) (cond (eqb m 1) 
 other_not : (m n : ℕ) → (m ≡ other m n → ⊥) × (n ≡ other m n → ⊥)
 unfolding other
 other_not m n =
-    by_if (λ x. (m ≡ x → ⊥) × (n ≡ x → ⊥)) (eqb m 0) _ _
-    (λ p. by_if (λ x. (m ≡ x → ⊥) × (n ≡ x → ⊥)) (eqb n 1) _ _
+    cond_both (eqb m 0) _ _ (λ x. (m ≡ x → ⊥) × (n ≡ x → ⊥))
+    (λ p. cond_both (eqb n 1) _ _ (λ x. (m ≡ x → ⊥) × (n ≡ x → ⊥))
     (λ q. (λ z. omega (arith, eqb-true m 0 p), λ z. omega (arith, eqb-true n 1 q)))
     (λ q. (λ z. omega (arith, eqb-true m 0 p), λ z. eqb-false n 1 q z)))
-    (λ p. by_if (λ x. (m ≡ x → ⊥) × (n ≡ x → ⊥)) (eqb n 0) _ _
-    (λ q. by_if (λ x. (m ≡ x → ⊥) × (n ≡ x → ⊥)) (eqb m 1) _ _
+    (λ p. cond_both (eqb n 0) _ _ (λ x. (m ≡ x → ⊥) × (n ≡ x → ⊥))
+    (λ q. cond_both (eqb m 1) _ _ (λ x. (m ≡ x → ⊥) × (n ≡ x → ⊥))
     (λ r. (λ z. omega (arith, eqb-true m 1 r), λ z. omega (arith, eqb-true n 0 q)))
     (λ r. (λ z. eqb-false m 1 r z, λ z. omega (arith, eqb-true n 0 q))))
     (λ q. (λ z. eqb-false m 0 p z, λ z. eqb-false n 0 q z)))
@@ -76,7 +77,7 @@ outside s t = record { number = other (number_in s) (number_in t); hash = None }
 other_number : (s : Option ReadAnchor) (b : ReadAnchor) → (number_in s ≡ b.number → ⊥) → holds s b ≡ false
 unfolding holds
 other_number None b n = refl
-other_number (Some a) b n = is_false _ (λ t. n (ap (λ c. c.number) (same_anchor_lem a b t)))
+other_number (Some a) b n = false_from_ne_true _ (λ t. n (ap (λ c. c.number) (same_anchor_lem a b t)))
 
 pub outside_first : (s t : Option ReadAnchor) → holds s (outside s t) ≡ false
 unfolding outside
@@ -89,7 +90,7 @@ outside_second s t = other_number t _ (other_not (number_in s) (number_in t)).1
 pub outside_fits : (s t : Option ReadAnchor) → AnchorFits (outside s t)
 unfolding outside other
 outside_fits s t = record {
-  number = by_if Fits (eqb (number_in s) 0) _ _ (λ p. by_if Fits (eqb (number_in t) 1) _ _ (λ q. lit< tt) (λ q. lit< tt)) (λ p. by_if Fits (eqb (number_in t) 0) _ _ (λ q. by_if Fits (eqb (number_in s) 1) _ _ (λ r. lit< tt) (λ r. lit< tt)) (λ q. lit< tt));
+  number = cond_both (eqb (number_in s) 0) _ _ Fits (λ p. cond_both (eqb (number_in t) 1) _ _ Fits (λ q. lit< tt) (λ q. lit< tt)) (λ p. cond_both (eqb (number_in t) 0) _ _ Fits (λ q. cond_both (eqb (number_in s) 1) _ _ Fits (λ r. lit< tt) (λ r. lit< tt)) (λ q. lit< tt));
   hash = tt;
 }
 

@@ -1,10 +1,10 @@
 -- Probes of several calls: the last call's answer tells the part.
+use Rattle.std.proofs.lemmas.Bool.{false_from_ne_true}
 use Rattle.std.specs.Prelude.{Option, None, Some}
 use Rattle.head_ready.specs.declared.Generation.{Generation}
-use Prim.Native.Nat.{ℕ, ◌<◌}
+use Prim.Native.Nat.{◌<◌}
 use mathlib.Core.Bool.{Bool, true, false}
 use mathlib.Core.Path.{◌≡◌, refl, sym, ap, ◌∙◌}
-use native.Mathlib.Omega.{arith}
 use Rattle.head_anchor.specs.Anchors.{holds}
 use Rattle.head_count.specs.Counters.{epoch_of, next_epoch, up}
 use Rattle.head_current.specs.Heads.{anchor_of, delivery}
@@ -25,7 +25,7 @@ use Rattle.alike.proofs.Brought.{Colded, cold_step, cold_writable, cold_call, de
 use Rattle.alike.proofs.Poses.{Pose, Unsettled, absent_of, by_pose, current_anchor, generation_fits, installed_anchor, not_installed, pose, previous_elsewhere, previous_empty, previous_anchor, settled_not_at, settled_pose}
 use Rattle.alike.proofs.Probes.{anchor_fits, probe_anchors, probe_claim, probe_pose, probe_seq, same_generation, twin_anchor, twin_unsettled, zero_fits}
 use Rattle.alike.proofs.Replies.{snapshot_previous, snapshot_spare}
-use Rattle.alike.proofs.Tests.{by_test, holds_same, is_false, same_holds, true_false, up_same}
+use Rattle.alike.proofs.Tests.{by_test, holds_same, same_holds, true_false, up_same}
 use Rattle.alike.proofs.Twins.{Twin, twin_answer, twin_step}
 use Rattle.alike.specs.Invariant.{Ordered}
 use Rattle.head_anchor.specs.Ranges.{AnchorFits, SlotFits}
@@ -66,7 +66,7 @@ previous_settled {d₁} {d₂} w n = same_generation Source.Previous d₁.life.p
 
 -- an unsettled head is not at the installed anchor
 current_elsewhere : (d : Driver) → Ordered d.life → Unsettled (pose d.life.current) → (a : ReadAnchor) → installed_anchor d ≡ Some a → holds (current_anchor d) a ≡ false
-current_elsewhere d v u a e = is_false _ (λ t. true_false (same_holds _ _ e) (not_installed d.life v _ refl u a (holds_same _ _ t)))
+current_elsewhere d v u a e = false_from_ne_true _ (λ t. true_false (same_holds _ _ e) (not_installed d.life v _ refl u a (holds_same _ _ t)))
 
 previous_unsettled : {d₁ d₂ : Driver} → Twin d₁ d₂ → Unsettled (pose d₁.life.current) → (s : Option ReadAnchor) → installed_anchor d₁ ≡ s → d₁.life.previous ≡ d₂.life.previous
 unfolding new_head
@@ -82,9 +82,9 @@ probe_previous {d₁} {d₂} w = by_pose (pose d₁.life.current) (λ u. previou
 -- what a settled head does not hide is neither installed nor previous
 settled_telling : (d : Driver) → Ordered d.life → (c : CurrentHead) → d.life.current ≡ c → pose c ≡ Pose.Settled → (x : ReadAnchor) → Telling c d.life.previous x → (holds (installed_anchor d) x ≡ false) × (holds (previous_anchor d) x ≡ false)
 unfolding delivery anchor_of holds
-settled_telling d v CurrentHead.Absent q k x t = let z : ◌≡◌ {A = ℕ} 0 1 = cc in absurd (omega arith)
-settled_telling d v (CurrentHead.Unclaimed u) q k x t = let z : ◌≡◌ {A = ℕ} 0 1 = cc in absurd (omega arith)
-settled_telling d v (CurrentHead.Preparing u) q k x t = let z : ◌≡◌ {A = ℕ} 0 1 = cc in absurd (omega arith)
+settled_telling d v CurrentHead.Absent q k x t = cc
+settled_telling d v (CurrentHead.Unclaimed u) q k x t = cc
+settled_telling d v (CurrentHead.Preparing u) q k x t = cc
 settled_telling d v (CurrentHead.Settled s) q k x t = (rw (rw q at v.settled_installed) t.0, t.1)
 
 reason_same : (b c : Bool) → HeadReadiness.Cold (spare_reason b) ≡ HeadReadiness.Cold (spare_reason c) → b ≡ c

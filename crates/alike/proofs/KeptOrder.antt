@@ -1,10 +1,10 @@
 -- Every call keeps the lifecycle's rules, I1 to I6 and I8 to I10.
+use Rattle.std.proofs.lemmas.Bool.{cond_both}
 use Rattle.std.specs.Prelude.{Option, None, Some, ◌&&◌}
 use Rattle.head_current.specs.declared.DeltaReport.{DeltaReport}
 use Prim.Native.Nat.{ℕ, ◌+◌}
 use mathlib.Core.Bool.{Bool, true, false}
 use mathlib.Core.Path.{◌≡◌, refl, sym, ap, ◌∙◌, subst}
-use native.Mathlib.Omega.{arith}
 use lib.Dec.{eqb}
 use borrow.Author.Tests.{eqb-true}
 use Rattle.head_anchor.specs.Anchors.{holds}
@@ -41,7 +41,7 @@ use Rattle.head_ready.specs.declared.Generation.{Generation}
 use Rattle.head_life.specs.declared.HeadLifecycle.{HeadLifecycle}
 use Rattle.head_call.specs.declared.Call.{Call}
 use Rattle.alike.proofs.Moves.{Move, step_move}
-use Rattle.alike.proofs.Tests.{by_if, holds_same, same_holds, true_false, up_positive}
+use Rattle.alike.proofs.Tests.{holds_same, same_holds, true_false, up_positive}
 use Rattle.alike.specs.Invariant.{Follows, FromApply, OpenOrAbandoned, Ordered, WhenGeneration}
 
 -- a lifecycle with its eight counters changed, delivered excepted
@@ -75,7 +75,7 @@ count_delivered false true s = refl
 count_delivered false false s = refl
 
 open_abandoned : {X : Type 0} → HeadCompletion.Open ≡ HeadCompletion.Abandoned → X
-open_abandoned e = let z : ◌≡◌ {A = ℕ} 0 1 = cc in absurd (omega arith)
+open_abandoned e = cc
 
 module _ (l : HeadLifecycle) (v : Ordered l) where
   next_delivered : (here : Bool) → next_seq l.seq ≡ seq_of (count_delivery here (unsettled l.current) l.stats).delivered
@@ -168,7 +168,7 @@ module _ (l : HeadLifecycle) (v : Ordered l) where
 -- an outcome is carried, or cold with a fault
 outcome_faulty : (link : Link) (skip : BalSkip) (carried : ℕ) → FromApply (settled_readiness (outcome link skip carried))
 unfolding outcome settled_readiness
-outcome_faulty link skip carried = by_if (λ o. FromApply (settled_readiness o)) (is_linked link && is_read skip) _ _ (λ e. tt) (λ e. e)
+outcome_faulty link skip carried = cond_both (is_linked link && is_read skip) _ _ (λ o. FromApply (settled_readiness o)) (λ e. tt) (λ e. e)
 
 -- what becomes previous keeps its readiness
 previous_kept : (i : Option Generation) (o : CarryOutcome) → WhenGeneration i (λ g. FromApply g.readiness) → WhenGeneration (previous_after i o) (λ g. FromApply g.readiness)
@@ -186,12 +186,12 @@ applied_below : (i : Option Generation) (g : Generation) (p : Hash) (skip : BalS
 unfolding apply_prepared outcome classify_link slot_anchor follows
 applied_below None g p skip carried = unfold previous_after is_linked in tt
 applied_below (Some q) g p skip carried =
-    by_if (λ k. Follows (Some g) (previous_after (Some q) (outcome k skip carried))) (eqb (q.anchor.number + 1) g.anchor.number) _ _
+    cond_both (eqb (q.anchor.number + 1) g.anchor.number) _ _ (λ k. Follows (Some g) (previous_after (Some q) (outcome k skip carried)))
     (λ e. carried_below g q _ (eqb-true _ _ e))
     (λ e. unfold previous_after is_linked in tt)
 
 pub nothing_held : {X : Type 0} {held : HeadDelivery} → None ≡ Some held → X
-nothing_held p = let z : ◌≡◌ {A = ℕ} 0 1 = cc in absurd (omega arith)
+nothing_held p = cc
 
 pub held_same : {x y : HeadDelivery} → Some x ≡ Some y → x ≡ y
 held_same p = cc

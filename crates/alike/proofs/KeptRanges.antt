@@ -1,4 +1,5 @@
 -- Every call that a line can write keeps the ranges: no number of a driver outgrows 64 bits.
+use Rattle.std.proofs.lemmas.Bool.{cond_both}
 use Rattle.std.specs.Prelude.{Option, Some, ◌&&◌}
 use Rattle.head_ready.specs.declared.Generation.{Generation}
 use Rattle.head_current.specs.declared.DeltaReport.{DeltaReport}
@@ -39,7 +40,7 @@ use Rattle.head_life.specs.declared.HeadLifecycle.{HeadLifecycle}
 use Rattle.head_call.specs.declared.Call.{Call}
 use Rattle.alike.proofs.KeptOrder.{held_same, nothing_held}
 use Rattle.alike.proofs.Moves.{Move, step_move}
-use Rattle.alike.proofs.Tests.{by_if, up_fits}
+use Rattle.alike.proofs.Tests.{up_fits}
 use Rattle.alike.proofs.Waking.{ending_fits, ending_length, set_fits}
 use Rattle.head_anchor.specs.Ranges.{AnchorFits, OutcomeFits, SkipFits, SlotFits}
 use Rattle.head_current.specs.Ranges.{DeliveryFits, HeadFits, ReportFits}
@@ -66,15 +67,15 @@ raise_fits Counter.ColdViews s f = (f.0, f.1, f.2, f.3, f.4, f.5, f.6, up_fits _
 count_fits : (here unsettled : Bool) (s : HeadStats) → StatsFit s → StatsFit (count_delivery here unsettled s)
 unfolding count_delivery count_replaced
 count_fits here unsettled s f =
-    let g = raise_fits Counter.Delivered (count_replaced unsettled s) (by_if StatsFit unsettled (raise Counter.Superseded s) s (λ e. raise_fits Counter.Superseded s f) (λ e. f)) in
+    let g = raise_fits Counter.Delivered (count_replaced unsettled s) (cond_both unsettled (raise Counter.Superseded s) s StatsFit (λ e. raise_fits Counter.Superseded s f) (λ e. f)) in
     let h = raise Counter.Delivered (count_replaced unsettled s) in
-    by_if StatsFit here (raise Counter.AlreadyCurrent h) h (λ e. raise_fits Counter.AlreadyCurrent h g) (λ e. g)
+    cond_both here (raise Counter.AlreadyCurrent h) h StatsFit (λ e. raise_fits Counter.AlreadyCurrent h g) (λ e. g)
 
 -- deliver
 
 new_head_fits : (here : Bool) (held : HeadDelivery) (cold : ℕ) → DeliveryFits held → Fits cold → HeadFits (new_head here held cold)
 unfolding new_head minted settled
-new_head_fits here held cold f g = by_if HeadFits here _ _ (λ e. record { delivery = f; report = tt; epoch = lit< tt }) (λ e. record { delivery = f; provisional = g; epoch = lit< tt })
+new_head_fits here held cold f g = cond_both here _ _ HeadFits (λ e. record { delivery = f; report = tt; epoch = lit< tt }) (λ e. record { delivery = f; provisional = g; epoch = lit< tt })
 
 replaced_fits : (c : CurrentHead) (s : Option ReadAnchor) → HeadFits c → SlotFits s → SlotFits (replaced (delivery c) s)
 unfolding replaced delivery
@@ -102,7 +103,7 @@ released_fits (CurrentHead.Settled s) f = f
 settled_fits : (c : CurrentHead) (e : Epoch) (r : Option DeltaReport) → HeadFits c → Fits e.0 → ReportFits r → HeadFits (settled_head c e r)
 unfolding settled_head publish settled
 settled_fits CurrentHead.Absent e r f g h = f
-settled_fits (CurrentHead.Unclaimed u) e r f g h = by_if HeadFits (abandonment u) _ _ (λ z. record { delivery = f.delivery; report = h; epoch = g }) (λ z. record { delivery = f.delivery; report = h; epoch = f.epoch })
+settled_fits (CurrentHead.Unclaimed u) e r f g h = cond_both (abandonment u) _ _ HeadFits (λ z. record { delivery = f.delivery; report = h; epoch = g }) (λ z. record { delivery = f.delivery; report = h; epoch = f.epoch })
 settled_fits (CurrentHead.Preparing u) e r f g h = record { delivery = f.delivery; report = h; epoch = f.epoch }
 settled_fits (CurrentHead.Settled s) e r f g h = record { delivery = f.delivery; report = h; epoch = f.epoch }
 
@@ -113,13 +114,13 @@ next_epoch_fits e f = up_fits e.0 f
 settling_fits : (c : CurrentHead) (e : Epoch) → Fits e.0 → Fits (settling_epoch c e).0
 unfolding settling_epoch
 settling_fits CurrentHead.Absent e f = f
-settling_fits (CurrentHead.Unclaimed u) e f = by_if (λ (x : Epoch). Fits x.0) (abandonment u) _ _ (λ z. next_epoch_fits e f) (λ z. f)
+settling_fits (CurrentHead.Unclaimed u) e f = cond_both (abandonment u) _ _ (λ (x : Epoch). Fits x.0) (λ z. next_epoch_fits e f) (λ z. f)
 settling_fits (CurrentHead.Preparing u) e f = f
 settling_fits (CurrentHead.Settled s) e f = f
 
 pub outcome_fits : (i : Option ReadAnchor) (a : ReadAnchor) (p : Hash) (skip : BalSkip) (carried : ℕ) → SkipFits skip → Fits carried → OutcomeFits (apply_prepared i a p skip carried)
 unfolding apply_prepared outcome
-outcome_fits i a p skip carried f g = by_if OutcomeFits (is_linked (classify_link i a p) && is_read skip) _ _ (λ e. g) (λ e. f)
+outcome_fits i a p skip carried f g = cond_both (is_linked (classify_link i a p) && is_read skip) _ _ OutcomeFits (λ e. g) (λ e. f)
 
 readiness_fits : (o : CarryOutcome) → OutcomeFits o → ReadinessFits (settled_readiness o)
 unfolding settled_readiness

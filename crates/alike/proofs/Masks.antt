@@ -1,10 +1,12 @@
 -- The mask of the superseded anchor.
+use Rattle.std.proofs.lemmas.Option.{same_Some}
+use Rattle.std.proofs.lemmas.Bool.{cond_both, false_from_ne_true}
 use Rattle.std.specs.Prelude.{Option, None, Some}
 use mathlib.Core.Bool.{Bool, false}
 use mathlib.Core.Path.{◌≡◌, refl, sym, ap, ◌∙◌}
 use Rattle.head_anchor.specs.Anchors.{holds, same_anchor}
 use Rattle.head_anchor.specs.declared.ReadAnchor.{ReadAnchor}
-use Rattle.alike.proofs.Tests.{at_same, by_if, by_test, holds_same, is_false, nothing_at, same_anchor_lem, same_holds, true_false}
+use Rattle.alike.proofs.Tests.{by_test, holds_same, nothing_at, same_anchor_lem, same_holds, true_false}
 use Rattle.alike.specs.Canon.{mask_by}
 use Rattle.head_anchor.specs.Ranges.{SlotFits}
 
@@ -19,7 +21,7 @@ pub mask_holds : (h : ReadAnchor → Bool) (a : ReadAnchor) (s : Option ReadAnch
 unfolding mask_by holds
 mask_holds h a None e = refl
 mask_holds h a (Some b) e = by_test (h b)
-    (λ t. rw t (is_false (same_anchor b a) (λ q. true_false t (ap h (same_anchor_lem b a q) ∙ e))))
+    (λ t. rw t (false_from_ne_true (same_anchor b a) (λ q. true_false t (ap h (same_anchor_lem b a q) ∙ e))))
     (λ f. rw f refl)
 
 mask_at : (h : ReadAnchor → Bool) (s : Option ReadAnchor) (x : ReadAnchor) → mask_by h s ≡ Some x → (s ≡ Some x) × (h x ≡ false)
@@ -27,7 +29,7 @@ unfolding mask_by
 mask_at h None x e = nothing_at e
 mask_at h (Some b) x e = by_test (h b)
     (λ t. nothing_at (rw t at e))
-    (λ f. let z : Some b ≡ Some x = rw f at e in (z, ap h (sym (at_same z)) ∙ f))
+    (λ f. let z : Some b ≡ Some x = rw f at e in (z, ap h (sym (same_Some _ _ z)) ∙ f))
 
 at_mask : (h : ReadAnchor → Bool) (x : ReadAnchor) → h x ≡ false → mask_by h (Some x) ≡ Some x
 unfolding mask_by
@@ -51,4 +53,4 @@ mask_same h s t f = slots_same _ _ (shown s t f) (shown t s (λ a e. sym (f a e)
 pub mask_fits : (h : ReadAnchor → Bool) (s : Option ReadAnchor) → SlotFits s → SlotFits (mask_by h s)
 unfolding mask_by
 mask_fits h None f = tt
-mask_fits h (Some a) f = by_if SlotFits (h a) _ _ (λ e. tt) (λ e. f)
+mask_fits h (Some a) f = cond_both (h a) _ _ SlotFits (λ e. tt) (λ e. f)

@@ -1,4 +1,5 @@
 -- What a call may do to a driver. The calls' tests are gone through here once; what every call keeps is then shown for each of these moves.
+use Rattle.std.proofs.lemmas.Bool.{cond_both}
 use Rattle.std.specs.Prelude.{Option, None, Some, Result}
 use Rattle.head_count.specs.declared.Seq.{Seq}
 use Rattle.head_count.specs.declared.Epoch.{Epoch}
@@ -51,7 +52,7 @@ use Rattle.head_driver.specs.declared.Reply.{Reply}
 use Rattle.head_plan.specs.declared.head_lifecycle.ApplyPlan.{ApplyPlan}
 use Rattle.head_ready.specs.declared.HeadView.{HeadView}
 use Rattle.head_call.specs.declared.Call.{Call}
-use Rattle.alike.proofs.Tests.{by_if, true_false}
+use Rattle.alike.proofs.Tests.{true_false}
 
 pub data Move (d : Driver) : Call → Driver → Type 0 where
   none : {c : Call} → Move d c d
@@ -72,7 +73,7 @@ Leaves d c r = Move d c r.driver
 module _ (d : Driver) (c : Call) where
   viewed_move : (v shown : HeadView) → Leaves d c (viewed d v shown)
   unfolding viewed view_counted record_view counted raise
-  viewed_move v shown = by_if (λ s. Move d c (with_life d (with_stats d.life s))) (is_ready v.readiness) _ _ (λ e. counts Counter.ReadyViews refl) (λ e. counts Counter.ColdViews refl)
+  viewed_move v shown = cond_both (is_ready v.readiness) _ _ (λ s. Move d c (with_life d (with_stats d.life s))) (λ e. counts Counter.ReadyViews refl) (λ e. counts Counter.ColdViews refl)
 
   viewed_by_move : (n : ℕ) (v shown : HeadView) → Leaves d c (viewed_by d n v shown)
   unfolding viewed_by
@@ -80,7 +81,7 @@ module _ (d : Driver) (c : Call) where
 
   join_move : (n : ℕ) (a : ReadAnchor) (spare : ℕ) → Leaves d c (join d n a spare)
   unfolding join
-  join_move n a spare = by_if (Leaves d c) (preparing_at d.life.current a) _ _ (λ e. parks n a e) (λ e. viewed_by_move n _ _)
+  join_move n a spare = cond_both (preparing_at d.life.current a) _ _ (Leaves d c) (λ e. parks n a e) (λ e. viewed_by_move n _ _)
 
   wait_move : (w : Waiter) (n : ℕ) (a : ReadAnchor) (spare : ℕ) → Leaves d c (wait_as d w n a spare)
   unfolding wait_as
@@ -98,8 +99,8 @@ module _ (d : Driver) (c : Call) where
 
   gate_move : (installed : Option ReadAnchor) (held : HeadDelivery) (ticket : HeadTicket) (next : Result Epoch HeadOutcome) → Leaves d c (claim_as d next) → Leaves d c (claim_as d (claim_gate installed held ticket next))
   unfolding claim_gate claim_as
-  gate_move installed held ticket next m = by_if (λ s. Leaves d c (claim_as d s)) (ticket_of held ticket) _ _
-      (λ e. by_if (λ s. Leaves d c (claim_as d s)) (holds installed ticket.anchor) _ _ (λ e. none) (λ e. m))
+  gate_move installed held ticket next m = cond_both (ticket_of held ticket) _ _ (λ s. Leaves d c (claim_as d s))
+      (λ e. cond_both (holds installed ticket.anchor) _ _ (λ s. Leaves d c (claim_as d s)) (λ e. none) (λ e. m))
       (λ e. none)
 
   claim_move : (head : CurrentHead) (ticket : HeadTicket) → d.life.current ≡ head → Leaves d c (claim_as d (claim_start_at (slot_anchor d.life.installed) d.life.claim_epoch head ticket))
@@ -118,7 +119,7 @@ module _ (d : Driver) (c : Call) where
 
   release_move : (owner : PrepareClaim) → Leaves d c (release d owner)
   unfolding release
-  release_move owner = by_if (Leaves d c) (owned_by d.life.current owner) _ _ (λ e. released_move d.life.current owner refl e) (λ e. none)
+  release_move owner = cond_both (owned_by d.life.current owner) _ _ (Leaves d c) (λ e. released_move d.life.current owner refl e) (λ e. none)
 
 -- a delivery of what is current repeats it; any other replaces it
 deliver_move : (d : Driver) (a : ReadAnchor) (p : Hash) (cold : ℕ) (r : Option Seq) → Leaves d (Call.Deliver a p cold) (deliver_as d a p cold r)
@@ -133,15 +134,15 @@ module _ (d : Driver) (ticket : HeadTicket) (list : PreparedBal) (handle carried
   plan_move : (slot : Option HeadDelivery) → delivery d.life.current ≡ slot → Applies (plan_at (slot_anchor d.life.installed) slot ticket list.anchor)
   unfolding apply_as plan_held settle_as raise
   plan_move None q = counts Counter.Discarded refl
-  plan_move (Some held) q = by_if Applies (ticket_of held ticket) _ _
-      (λ e. by_if Applies (same_anchor list.anchor held.anchor) _ _
-      (λ e. by_if Applies (holds (slot_anchor d.life.installed) held.anchor) _ _ (λ e. none) (λ e. settles ticket list handle carried report held q e))
+  plan_move (Some held) q = cond_both (ticket_of held ticket) _ _ Applies
+      (λ e. cond_both (same_anchor list.anchor held.anchor) _ _ Applies
+      (λ e. cond_both (holds (slot_anchor d.life.installed) held.anchor) _ _ Applies (λ e. none) (λ e. settles ticket list handle carried report held q e))
       (λ e. counts Counter.Discarded refl))
       (λ e. counts Counter.Discarded refl)
 
   apply_move : Leaves d (Call.Apply ticket list handle carried report) (apply d ticket list handle carried report)
   unfolding apply plan_apply
-  apply_move = by_if (Leaves d (Call.Apply ticket list handle carried report)) (as_prepared list) _ _ (λ e. plan_move (delivery d.life.current) refl) (λ e. none)
+  apply_move = cond_both (as_prepared list) _ _ (Leaves d (Call.Apply ticket list handle carried report)) (λ e. plan_move (delivery d.life.current) refl) (λ e. none)
 
 dispatch_move : (d : Driver) (c : Call) → Leaves d c (dispatch d c)
 unfolding dispatch deliver claim claim_start snapshot wait resume completion link report stats heads
@@ -150,8 +151,8 @@ dispatch_move d (Call.Claim ticket) = claim_move d _ d.life.current ticket refl
 dispatch_move d (Call.Release owner) = release_move d _ owner
 dispatch_move d (Call.Apply ticket list handle carried report) = apply_move d ticket list handle carried report
 dispatch_move d (Call.Snapshot a spare) = viewed_move d _ _ _
-dispatch_move d (Call.Wait n a spare) = by_if (Leaves d _) (ltb n 16) _ _ (λ e. wait_move d _ _ n a spare) (λ e. none)
-dispatch_move d (Call.Resume n spare) = by_if (Leaves d _) (ltb n 16) _ _ (λ e. resume_move d _ _ n spare) (λ e. none)
+dispatch_move d (Call.Wait n a spare) = cond_both (ltb n 16) _ _ (Leaves d _) (λ e. wait_move d _ _ n a spare) (λ e. none)
+dispatch_move d (Call.Resume n spare) = cond_both (ltb n 16) _ _ (Leaves d _) (λ e. resume_move d _ _ n spare) (λ e. none)
 dispatch_move d (Call.Completion a) = none
 dispatch_move d (Call.Link parent child parent_hash) = none
 dispatch_move d Call.Report = none

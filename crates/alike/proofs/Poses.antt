@@ -1,4 +1,6 @@
 -- The parts of a driver that the probes ask for, each read off every head.
+use Rattle.std.proofs.lemmas.Option.{same_Some}
+use Rattle.std.proofs.lemmas.Bool.{false_from_ne_true}
 use Rattle.std.specs.Prelude.{Option, None, Some}
 use Rattle.head_current.specs.declared.DeltaReport.{DeltaReport}
 use Prim.Native.Nat.{ℕ}
@@ -27,7 +29,7 @@ use Rattle.head_ready.specs.declared.Generation.{Generation}
 use Rattle.head_life.specs.declared.HeadLifecycle.{HeadLifecycle}
 use Rattle.alike.proofs.Alike.{SameHead, unsettled_at}
 use Rattle.alike.proofs.KeptRanges.{held_fits}
-use Rattle.alike.proofs.Tests.{at_same, is_false, nothing_at, same_anchor_lem}
+use Rattle.alike.proofs.Tests.{nothing_at, same_anchor_lem}
 use Rattle.alike.specs.Invariant.{Follows, Ordered}
 use Rattle.head_anchor.specs.Ranges.{AnchorFits}
 use Rattle.head_ready.specs.Ranges.{GenerationSlotFits}
@@ -134,7 +136,7 @@ published_end (CurrentHead.Settled s) = refl
 pub held_at : (s : Option HeadDelivery) (a : ReadAnchor) → anchor_of s ≡ Some a → (held : HeadDelivery) × (s ≡ Some held) × (held.anchor ≡ a)
 unfolding anchor_of
 held_at None a e = nothing_at e
-held_at (Some held) a e = (held, refl, at_same e)
+held_at (Some held) a e = (held, refl, same_Some _ _ e)
 
 pub absent_of : (c : CurrentHead) → anchor_of (delivery c) ≡ None → c ≡ CurrentHead.Absent
 unfolding anchor_of delivery
@@ -144,10 +146,10 @@ absent_of (CurrentHead.Preparing u) e = nothing_at (sym e)
 absent_of (CurrentHead.Settled s) e = nothing_at (sym e)
 
 pub preparing_of : (c : CurrentHead) → pose c ≡ Pose.Preparing → (u : UnsettledHead) × (c ≡ CurrentHead.Preparing u)
-preparing_of CurrentHead.Absent e = let z : ◌≡◌ {A = ℕ} 0 1 = cc in absurd (omega arith)
-preparing_of (CurrentHead.Unclaimed u) e = let z : ◌≡◌ {A = ℕ} 0 1 = cc in absurd (omega arith)
+preparing_of CurrentHead.Absent e = cc
+preparing_of (CurrentHead.Unclaimed u) e = cc
 preparing_of (CurrentHead.Preparing u) e = (u, refl)
-preparing_of (CurrentHead.Settled s) e = let z : ◌≡◌ {A = ℕ} 0 1 = cc in absurd (omega arith)
+preparing_of (CurrentHead.Settled s) e = cc
 
 pub no_provisional : (c : CurrentHead) → (Unsettled (pose c) → ⊥) → provisional_of c ≡ 0
 no_provisional CurrentHead.Absent n = refl
@@ -174,13 +176,13 @@ head_fits c a f e = let h = held_at (delivery c) a e in rw h.2 at (held_fits c h
 pub generation_fits : (g : Option Generation) (a : ReadAnchor) → GenerationSlotFits g → slot_anchor g ≡ Some a → AnchorFits a
 unfolding slot_anchor
 generation_fits None a f e = nothing_at e
-generation_fits (Some g) a f e = rw (at_same e) at f.anchor
+generation_fits (Some g) a f e = rw (same_Some _ _ e) at f.anchor
 
 -- the previous generation is not at the installed anchor
 pub previous_elsewhere : (i p : Option Generation) → Follows i p → (g : Generation) (a : ReadAnchor) → p ≡ Some g → g.anchor ≡ a → holds (slot_anchor i) a ≡ false
 unfolding slot_anchor holds
 previous_elsewhere None p x g a e q = refl
-previous_elsewhere (Some i) p x g a e q = is_false _ (λ t.
+previous_elsewhere (Some i) p x g a e q = false_from_ne_true _ (λ t.
     let z = rw e at x in
     omega (arith, z, ap (λ b. b.number) (same_anchor_lem _ _ t), ap (λ b. b.number) q))
 
@@ -196,8 +198,8 @@ module _ (l : HeadLifecycle) (v : Ordered l) where
   pub not_installed : (c : CurrentHead) → l.current ≡ c → Unsettled (pose c) → (a : ReadAnchor) → anchor_of (delivery c) ≡ Some a → holds (slot_anchor l.installed) a ≡ false
   unfolding anchor_of delivery
   not_installed CurrentHead.Absent q u a e = absurd u
-  not_installed (CurrentHead.Unclaimed x) q u a e = rw (at_same e) at (rw q at v.unsettled_elsewhere)
-  not_installed (CurrentHead.Preparing x) q u a e = rw (at_same e) at (rw q at v.unsettled_elsewhere)
+  not_installed (CurrentHead.Unclaimed x) q u a e = rw (same_Some _ _ e) at (rw q at v.unsettled_elsewhere)
+  not_installed (CurrentHead.Preparing x) q u a e = rw (same_Some _ _ e) at (rw q at v.unsettled_elsewhere)
   not_installed (CurrentHead.Settled x) q u a e = absurd u
 
   -- a head that is settled, or none, is the installed one

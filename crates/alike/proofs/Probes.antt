@@ -1,4 +1,5 @@
 -- Probes of one call: twins agree in the part that the call's answer tells.
+use Rattle.std.proofs.lemmas.Option.{same_Some}
 use Rattle.std.specs.Prelude.{Option, None, Some, cond}
 use Prim.Native.Nat.{◌<◌}
 use mathlib.Core.Path.{◌≡◌, refl, sym, ap, ◌∙◌}
@@ -31,7 +32,7 @@ use Rattle.alike.proofs.Alike.{SameHead}
 use Rattle.alike.proofs.KeptRanges.{held_fits}
 use Rattle.alike.proofs.Poses.{Unsettled, absent_of, by_pose, claim_answer, current_anchor, head_fits, held_at, held_of, installed_anchor, no_provisional, parent_of, pose, preparing_minted, previous_anchor, provisional_of, published_end, same_parts}
 use Rattle.alike.proofs.Replies.{claim_answers, completion_answers, deliver_answers, snapshot_current, snapshot_installed}
-use Rattle.alike.proofs.Tests.{at_same, by_test, hash_same, nothing_at, same_hash_lem, up_other}
+use Rattle.alike.proofs.Tests.{by_test, hash_same, nothing_at, same_hash_lem, up_other}
 use Rattle.alike.proofs.Twins.{Twin, twin_answer}
 use Rattle.alike.specs.Invariant.{Ordered}
 use Rattle.head_anchor.specs.Ranges.{AnchorFits}
@@ -67,9 +68,9 @@ same_generation s None None e f = refl
 same_generation s None (Some g₂) e f = nothing_at e
 same_generation s (Some g₁) None e f = nothing_at (sym e)
 same_generation s (Some g₁) (Some g₂) e f =
-    let q = f g₁ g₂ refl refl (sym (at_same e)) in
+    let q = f g₁ g₂ refl refl (sym (same_Some _ _ e)) in
     let v : view_of s g₁.handle g₁.readiness ≡ view_of s g₂.handle g₂.readiness = cc in
-    let a = at_same e in
+    let a = same_Some _ _ e in
     λ j. Some (record { anchor = a j; handle = (v j).handle; readiness = (v j).readiness })
 
 -- the old ticket is not the next one

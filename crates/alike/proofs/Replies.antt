@@ -1,4 +1,5 @@
 -- What one call answers of a driver: one-sided, each a function of the part that it asks for.
+use Rattle.std.proofs.lemmas.Option.{same_Some}
 use Rattle.std.specs.Prelude.{Option, None, Some, cond}
 use Prim.Native.Nat.{ℕ}
 use mathlib.Core.Bool.{true, false}
@@ -31,7 +32,7 @@ use Rattle.head_ready.specs.declared.HeadView.{HeadView}
 use Rattle.head_ready.specs.declared.Source.{Source}
 use Rattle.alike.proofs.Alike.{unsettled_at}
 use Rattle.alike.proofs.Poses.{Unsettled, claim_answer, current_anchor, installed_anchor, not_installed, pose, previous_anchor, provisional_of}
-use Rattle.alike.proofs.Tests.{anchor_same, at_same, by_test, eqb_same, nothing_at, same_holds}
+use Rattle.alike.proofs.Tests.{anchor_same, by_test, eqb_same, nothing_at, same_holds}
 use Rattle.alike.specs.Invariant.{Ordered}
 
 pub ticket_ok : (held : HeadDelivery) (a : ReadAnchor) (n : Seq) → held.anchor ≡ a → held.seq ≡ n → ticket_of held (record { anchor = a; seq = n }) ≡ true
@@ -52,8 +53,8 @@ view_pass k (Some g) a o e = rw e refl
 current_here : (c : CurrentHead) (a : ReadAnchor) (o : HeadView) → Unsettled (pose c) → anchor_of (delivery c) ≡ Some a → current_view c a o ≡ view_of Source.Provisional (provisional_of c) (HeadReadiness.Cold HeadCold.Unprepared)
 unfolding current_view provisional_view anchor_of delivery
 current_here CurrentHead.Absent a o u e = absurd u
-current_here (CurrentHead.Unclaimed x) a o u e = rw (anchor_same _ _ (at_same e)) refl
-current_here (CurrentHead.Preparing x) a o u e = rw (anchor_same _ _ (at_same e)) refl
+current_here (CurrentHead.Unclaimed x) a o u e = rw (anchor_same _ _ (same_Some _ _ e)) refl
+current_here (CurrentHead.Preparing x) a o u e = rw (anchor_same _ _ (same_Some _ _ e)) refl
 current_here (CurrentHead.Settled x) a o u e = absurd u
 
 pub current_pass : (c : CurrentHead) (a : ReadAnchor) (o : HeadView) → unsettled_at c a ≡ false → current_view c a o ≡ o
@@ -85,9 +86,9 @@ module _ (d : Driver) (v : Ordered d.life) where
   pub claim_answers : (c : CurrentHead) → d.life.current ≡ c → (a : ReadAnchor) → anchor_of (delivery c) ≡ Some a → (claim d (record { anchor = a; seq = d.life.seq })).answer ≡ claim_answer c d.life.claim_epoch
   unfolding claim claim_start claim_gate claim_as delivery anchor_of
   claim_answers CurrentHead.Absent q a e = nothing_at e
-  claim_answers (CurrentHead.Unclaimed u) q a e = rw (q, ticket_ok u.delivery a d.life.seq (at_same e) (rw q at v.seq_current), not_installed d.life v _ q tt a e) refl
-  claim_answers (CurrentHead.Preparing u) q a e = rw (q, ticket_ok u.delivery a d.life.seq (at_same e) (rw q at v.seq_current), not_installed d.life v _ q tt a e) refl
-  claim_answers (CurrentHead.Settled s) q a e = rw (q, ticket_ok s.delivery a d.life.seq (at_same e) (rw q at v.seq_current), same_holds _ _ ((rw q at v.settled_installed) ∙ e)) refl
+  claim_answers (CurrentHead.Unclaimed u) q a e = rw (q, ticket_ok u.delivery a d.life.seq (same_Some _ _ e) (rw q at v.seq_current), not_installed d.life v _ q tt a e) refl
+  claim_answers (CurrentHead.Preparing u) q a e = rw (q, ticket_ok u.delivery a d.life.seq (same_Some _ _ e) (rw q at v.seq_current), not_installed d.life v _ q tt a e) refl
+  claim_answers (CurrentHead.Settled s) q a e = rw (q, ticket_ok s.delivery a d.life.seq (same_Some _ _ e) (rw q at v.seq_current), same_holds _ _ ((rw q at v.settled_installed) ∙ e)) refl
 
   -- a completion at the current anchor tells the end
   pub completion_answers : (a : ReadAnchor) → current_anchor d ≡ Some a → (completion d a).answer ≡ Answer.Completion (published d.life.current)

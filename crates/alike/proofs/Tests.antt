@@ -1,5 +1,6 @@
 -- The tests of the state machine as equations: a test of equality holds exactly of equals; and what a saturating counter does.
-use Rattle.std.specs.Prelude.{Option, None, Some, cond, ◌&&◌}
+use Rattle.std.proofs.lemmas.Bool.{cond_both, and_parts}
+use Rattle.std.specs.Prelude.{Option, None, Some, ◌&&◌}
 use Prim.Native.Nat.{ℕ, ◌+◌, ◌≤◌, ◌<◌}
 use mathlib.Core.Bool.{Bool, true, false}
 use mathlib.Core.Path.{◌≡◌, refl, ap}
@@ -15,30 +16,12 @@ use Rattle.head_anchor.specs.declared.ReadAnchor.{ReadAnchor}
 use Rattle.hash.specs.Ranges.{Fits}
 
 pub true_false : {X : Type 0} {b : Bool} → b ≡ true → b ≡ false → X
-true_false p q = let z : ◌≡◌ {A = ℕ} 0 1 = cc in absurd (omega arith)
+true_false p q = cc
 
 -- a test by its two cases
 pub by_test : {X : Type 0} (b : Bool) → (b ≡ true → X) → (b ≡ false → X) → X
 by_test true t f = t refl
 by_test false t f = f refl
-
--- a choice has a property if both its cases have it
-pub by_if : {A : Type 0} (P : A → Type 0) (b : Bool) (x y : A) → (b ≡ true → P x) → (b ≡ false → P y) → P (cond b x y)
-by_if P true x y t f = t refl
-by_if P false x y t f = f refl
-
--- a test that is not true is false
-pub is_false : (b : Bool) → (b ≡ true → ⊥) → b ≡ false
-is_false true n = absurd (n refl)
-is_false false n = refl
-
-pub both_left : (a b : Bool) → (a && b) ≡ true → a ≡ true
-both_left true b e = refl
-both_left false b e = e
-
-pub both_right : (a b : Bool) → (a && b) ≡ true → b ≡ true
-both_right true b e = e
-both_right false b e = true_false e refl
 
 -- numbers
 
@@ -53,12 +36,12 @@ same_hash_lem a b e =
     let t3 = eqb a.w3 b.w3 in
     let t2 = eqb a.w2 b.w2 && t3 in
     let t1 = eqb a.w1 b.w1 && t2 in
-    let r1 = both_right (eqb a.w0 b.w0) t1 e in
-    let r2 = both_right (eqb a.w1 b.w1) t2 r1 in
-    let p0 = eqb-true _ _ (both_left (eqb a.w0 b.w0) t1 e) in
-    let p1 = eqb-true _ _ (both_left (eqb a.w1 b.w1) t2 r1) in
-    let p2 = eqb-true _ _ (both_left (eqb a.w2 b.w2) t3 r2) in
-    let p3 = eqb-true _ _ (both_right (eqb a.w2 b.w2) t3 r2) in
+    let r1 = (and_parts (eqb a.w0 b.w0) t1 e).1 in
+    let r2 = (and_parts (eqb a.w1 b.w1) t2 r1).1 in
+    let p0 = eqb-true _ _ ((and_parts (eqb a.w0 b.w0) t1 e).0) in
+    let p1 = eqb-true _ _ ((and_parts (eqb a.w1 b.w1) t2 r1).0) in
+    let p2 = eqb-true _ _ ((and_parts (eqb a.w2 b.w2) t3 r2).0) in
+    let p3 = eqb-true _ _ ((and_parts (eqb a.w2 b.w2) t3 r2).1) in
     λ i. record { w0 = p0 i; w1 = p1 i; w2 = p2 i; w3 = p3 i }
 
 pub hash_same : (a : Hash) → same_hash a a ≡ true
@@ -78,8 +61,8 @@ block_hash_same (Some a) = hash_same a
 pub same_anchor_lem : (a b : ReadAnchor) → same_anchor a b ≡ true → a ≡ b
 unfolding same_anchor
 same_anchor_lem a b e =
-    let p = eqb-true _ _ (both_left (eqb a.number b.number) (option_eq same_hash a.hash b.hash) e) in
-    let q = same_block_hash_lem _ _ (both_right (eqb a.number b.number) (option_eq same_hash a.hash b.hash) e) in
+    let p = eqb-true _ _ ((and_parts (eqb a.number b.number) (option_eq same_hash a.hash b.hash) e).0) in
+    let q = same_block_hash_lem _ _ ((and_parts (eqb a.number b.number) (option_eq same_hash a.hash b.hash) e).1) in
     λ i. record { number = p i; hash = q i }
 
 pub anchor_same : (a b : ReadAnchor) → a ≡ b → same_anchor a b ≡ true
@@ -97,26 +80,23 @@ pub same_holds : (s : Option ReadAnchor) (a : ReadAnchor) → s ≡ Some a → h
 unfolding holds
 same_holds s a e = rw e (anchor_same a a refl)
 
-pub at_same : {a b : ReadAnchor} → Some a ≡ Some b → a ≡ b
-at_same p = cc
-
 pub nothing_at : {X : Type 0} {a : ReadAnchor} → None ≡ Some a → X
-nothing_at p = let z : ◌≡◌ {A = ℕ} 0 1 = cc in absurd (omega arith)
+nothing_at p = cc
 
 -- counters
 
 pub up_below : (n : ℕ) → n < 0xffff_ffff_ffff_ffff → up n ≡ n + 1
 unfolding up
-up_below n h = by_if (λ x. x ≡ n + 1) (ltb n 0xffff_ffff_ffff_ffff) (n + 1) n (λ e. refl) (λ e. absurd (omega (arith, ltb-false n 0xffff_ffff_ffff_ffff e)))
+up_below n h = cond_both (ltb n 0xffff_ffff_ffff_ffff) (n + 1) n (λ x. x ≡ n + 1) (λ e. refl) (λ e. absurd (omega (arith, ltb-false n 0xffff_ffff_ffff_ffff e)))
 
 pub up_fits : (n : ℕ) → Fits n → Fits (up n)
 unfolding up
-up_fits n h = by_if Fits (ltb n 0xffff_ffff_ffff_ffff) (n + 1) n (λ e. omega (arith, ltb-true n 0xffff_ffff_ffff_ffff e)) (λ e. h)
+up_fits n h = cond_both (ltb n 0xffff_ffff_ffff_ffff) (n + 1) n Fits (λ e. omega (arith, ltb-true n 0xffff_ffff_ffff_ffff e)) (λ e. h)
 
 -- one more is at least 1, at the limit too
 pub up_positive : (n : ℕ) → 1 ≤ up n
 unfolding up
-up_positive n = by_if (λ x. 1 ≤ x) (ltb n 0xffff_ffff_ffff_ffff) (n + 1) n (λ e. omega arith) (λ e. omega (arith, ltb-false n 0xffff_ffff_ffff_ffff e))
+up_positive n = cond_both (ltb n 0xffff_ffff_ffff_ffff) (n + 1) n (λ x. 1 ≤ x) (λ e. omega arith) (λ e. omega (arith, ltb-false n 0xffff_ffff_ffff_ffff e))
 
 pub up_same : (m n : ℕ) → m < 0xffff_ffff_ffff_ffff → n < 0xffff_ffff_ffff_ffff → up m ≡ up n → m ≡ n
 up_same m n p q e = omega (arith, e, up_below m p, up_below n q)

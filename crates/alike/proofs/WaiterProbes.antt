@@ -1,5 +1,7 @@
 -- Probes of the waiters. A resume of a waiter, where the head is preparing at an anchor, tells a free one, one that is parked or stays so, and one that gets a view: of the
 -- head's own anchor or of another. Brought to a preparation at its own anchor, a waiter that is not parked tells all; a parked one is released first.
+use Rattle.std.proofs.lemmas.Option.{same_Some}
+use Rattle.std.proofs.lemmas.Bool.{cond_both, false_from_ne_true}
 use Rattle.std.specs.Prelude.{Option, None, Some, cond}
 use Rattle.head_ready.specs.declared.Generation.{Generation}
 use Rattle.head_current.specs.declared.HeadDelivery.{HeadDelivery}
@@ -50,7 +52,7 @@ use Rattle.alike.proofs.DeepProbes.{twin_cold, twin_colded}
 use Rattle.alike.proofs.Poses.{Pose, Unsettled, by_pose, current_anchor, installed_anchor, not_installed, pose, preparing_of, provisional_of, settled_anchor}
 use Rattle.alike.proofs.Probes.{anchor_fits, probe_anchors, probe_pose, probe_seq, twin_anchor, twin_unsettled, zero_fits}
 use Rattle.alike.proofs.Replies.{current_pass, ticket_ok, view_current}
-use Rattle.alike.proofs.Tests.{anchor_same, at_same, by_if, by_test, holds_same, is_false, same_anchor_lem, same_holds, true_false}
+use Rattle.alike.proofs.Tests.{anchor_same, by_test, holds_same, same_anchor_lem, same_holds, true_false}
 use Rattle.alike.proofs.Twins.{Twin, twin_answer, twin_step, twin_sym}
 use Rattle.alike.proofs.Waking.{at_fits, at_none, ending_at, wake_at, woken_not}
 use Rattle.alike.specs.Invariant.{NotParked, Ordered, Parks}
@@ -106,14 +108,14 @@ prepares_at : (c : CurrentHead) (a : ReadAnchor) → pose c ≡ Pose.Preparing �
 unfolding preparing_at anchor_of delivery
 prepares_at c a k e b =
     let u = preparing_of c k in
-    let z : u.0.delivery.anchor ≡ a = at_same (sym (ap (λ x. anchor_of (delivery x)) u.1) ∙ e) in
+    let z : u.0.delivery.anchor ≡ a = same_Some _ _ (sym (ap (λ x. anchor_of (delivery x)) u.1) ∙ e) in
     rw (u.1, z) (refl, refl)
 
 -- a view of another anchor than the unsettled head's is never provisional
 generation_source : (k : Source) (g : Option Generation) (a : ReadAnchor) (o : HeadView) → source_tells k ≡ shown_elsewhere → source_tells o.source ≡ shown_elsewhere → source_tells (generation_view k g a o).source ≡ shown_elsewhere
 unfolding generation_view
 generation_source k None a o p q = q
-generation_source k (Some g) a o p q = by_if (λ (v : HeadView). source_tells v.source ≡ shown_elsewhere) (same_anchor g.anchor a) _ _ (λ e. p) (λ e. q)
+generation_source k (Some g) a o p q = cond_both (same_anchor g.anchor a) _ _ (λ (v : HeadView). source_tells v.source ≡ shown_elsewhere) (λ e. p) (λ e. q)
 
 view_source : (l : HeadLifecycle) (b : ReadAnchor) (spare : ℕ) → unsettled_at l.current b ≡ false → source_tells (view l b spare).source ≡ shown_elsewhere
 unfolding view spare_view
@@ -121,7 +123,7 @@ view_source l b spare e = generation_source _ l.installed b _ refl (rw (current_
 
 abandoned_source : (v : HeadView) (spare : ℕ) → source_tells v.source ≡ shown_elsewhere → source_tells (abandoned_view v spare).source ≡ shown_elsewhere
 unfolding abandoned_view
-abandoned_source v spare e = by_if (λ (x : HeadView). source_tells x.source ≡ shown_elsewhere) (is_ready v.readiness) _ _ (λ z. refl) (λ z. e)
+abandoned_source v spare e = cond_both (is_ready v.readiness) _ _ (λ (x : HeadView). source_tells x.source ≡ shown_elsewhere) (λ z. refl) (λ z. e)
 
 module _ (d : Driver) (v : Ordered d.life) (a : ReadAnchor) (k : pose d.life.current ≡ Pose.Preparing) (e : current_anchor d ≡ Some a) where
   view_own : (b : ReadAnchor) (spare : ℕ) → same_anchor a b ≡ true → view d.life b spare ≡ view_of Source.Provisional (provisional_of d.life.current) (HeadReadiness.Cold HeadCold.Unprepared)
@@ -163,7 +165,7 @@ record Delivered (d : Driver) (a : ReadAnchor) (e : Driver) : Type 0 where
 
 repeated_anchor : (s : Option HeadDelivery) (a : ReadAnchor) (p : Hash) (n : Seq) → repeats s a p ≡ Some n → anchor_of s ≡ Some a
 unfolding repeats repeat_of same_delivery anchor_of
-repeated_anchor None a p n e = let z : ◌≡◌ {A = ℕ} 0 1 = cc in absurd (omega arith)
+repeated_anchor None a p n e = cc
 repeated_anchor (Some held) a p n e = by_test (same_anchor held.anchor a)
     (λ t. ap Some (same_anchor_lem _ _ t))
     (λ f.
@@ -200,9 +202,9 @@ claim_prepares : (d : Driver) → Ordered d.life → (c : CurrentHead) → d.lif
 unfolding claiming dispatch claim claim_start claim_gate claim_as claimed claimed_head with_life delivery anchor_of
 claim_prepares d v CurrentHead.Absent q u a e = absurd u
 claim_prepares d v (CurrentHead.Unclaimed x) q u a e =
-    rw (q, ticket_ok x.delivery a d.life.seq (at_same e) (rw q at v.seq_current), not_installed d.life v _ q tt a e) (record { prepares = refl; anchors = e; keeps = refl })
+    rw (q, ticket_ok x.delivery a d.life.seq (same_Some _ _ e) (rw q at v.seq_current), not_installed d.life v _ q tt a e) (record { prepares = refl; anchors = e; keeps = refl })
 claim_prepares d v (CurrentHead.Preparing x) q u a e =
-    rw (q, ticket_ok x.delivery a d.life.seq (at_same e) (rw q at v.seq_current), not_installed d.life v _ q tt a e) (record { prepares = refl; anchors = e; keeps = refl })
+    rw (q, ticket_ok x.delivery a d.life.seq (same_Some _ _ e) (rw q at v.seq_current), not_installed d.life v _ q tt a e) (record { prepares = refl; anchors = e; keeps = refl })
 claim_prepares d v (CurrentHead.Settled x) q u a e = absurd u
 
 -- Waiters that are not parked have the same mark at every anchor: the anchor is delivered and claimed. Where it is installed, another is installed in its place first.
@@ -241,7 +243,7 @@ module _ (a : ReadAnchor) (f : AnchorFits a) (n : ℕ) (b : n < 16) where
       let c₂ = twin_colded w u elsewhere e in
       let q₁ = ap (λ ws. waiter_at ws n) c₁.wakes ∙ ending_at HeadCompletion.Settled d₁.life.current d₁.waiters n k₁ in
       let q₂ = ap (λ ws. waiter_at ws n) c₂.wakes ∙ ending_at HeadCompletion.Settled d₂.life.current d₂.waiters n k₂ in
-      let i : same_anchor elsewhere a ≡ false = is_false _ (λ t. true_false (anchor_same a elsewhere (sym (same_anchor_lem _ _ t))) elsewhere_not) in
+      let i : same_anchor elsewhere a ≡ false = false_from_ne_true _ (λ t. true_false (anchor_same a elsewhere (sym (same_anchor_lem _ _ t))) elsewhere_not) in
       ap (mark a) (sym q₁) ∙ marks_deliver z (rw c₁.installs i) (rw q₁ k₁) (rw q₂ k₂) ∙ ap (mark a) q₂
 
   marks_installed : {d₁ d₂ : Driver} → Twin d₁ d₂ → holds (installed_anchor d₁) a ≡ true → NotParked (waiter_at d₁.waiters n) → NotParked (waiter_at d₂.waiters n) → Marked d₁ d₂
@@ -316,7 +318,7 @@ probe_parked {d₁} {d₂} w e n b q =
     let p₂ = preparing_of d₂.life.current (sym (probe_pose w) ∙ k) in
     let a = p₁.0.delivery.anchor in
     let a₁ : current_anchor d₁ ≡ Some a = ap (λ c. anchor_of (delivery c)) p₁.1 in
-    let a₂ : p₂.0.delivery.anchor ≡ a = at_same (sym (ap (λ c. anchor_of (delivery c)) p₂.1) ∙ twin_anchor w a a₁) in
+    let a₂ : p₂.0.delivery.anchor ≡ a = same_Some _ _ (sym (ap (λ c. anchor_of (delivery c)) p₂.1) ∙ twin_anchor w a a₁) in
     let z = rw (release_hit d₁ v₁ p₁.0 p₁.1 d₁.life.seq d₁.life.claim_epoch refl refl, release_hit d₂ v₂ p₂.0 p₂.1 d₁.life.seq d₁.life.claim_epoch (sym (probe_seq w)) (sym e))
     at (twin_step w (Call.Release (record { seq = d₁.life.seq; epoch = d₁.life.claim_epoch })) (w.invariant₁.fits.life.seq, w.invariant₁.fits.life.epoch)) in
     let x₁ = released_at d₁ p₁.0 p₁.1 n ∙ ap (woken HeadCompletion.Abandoned a) q in

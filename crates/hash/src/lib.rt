@@ -13,7 +13,7 @@ pub struct Hash {
     pub w3: u64,
 }
 
-// The derived `==` is document 01's equality of hashes.
+// The derived `==` is document 01's equality of hashes: a law, since code writes `==`.
 #[tactic(auto, unfolding(crate::specs::Hashes::same_hash))]
 pub fn same_hash(a: Hash, b: Hash) -> bool
     ensures { result ≡ same_hash a b }

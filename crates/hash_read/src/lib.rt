@@ -37,6 +37,7 @@ pub(crate) fn put_values(word: &[u8], values: &mut [u8]) -> u8
     ensures value { result ≡ largest word.now }
 {
     let mut most: u8 = 0;
+    // By place and not by `zip`: the invariant can then name the bytes written.
     for (i, b) in word.iter().enumerate() {
         let v = value_of(*b);
         values[i] = v;

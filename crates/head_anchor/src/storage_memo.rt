@@ -1,4 +1,4 @@
-// From storage_memo.rs: the derived `==` of anchors is document 01's.
+// From storage_memo.rs: the derived `==` of anchors is document 01's. Two laws, since code writes `==`.
 ghost use Rattle.std.specs.Prelude.{◌≡◌};
 ghost use Rattle.head_anchor.specs.Anchors.{same_anchor, holds};
 

@@ -24,7 +24,7 @@ pub struct ClaimAttempt {
     pub end: HeadCompletion,
 }
 
-// A parked waiter needs no anchor: it waits on the current preparation.
+// Document 01's small structs, each with an enum of its four cases. A parked waiter needs no anchor: it waits on the current preparation.
 #[derive(Clone, Copy, Default)]
 pub enum Waiter {
     #[default]

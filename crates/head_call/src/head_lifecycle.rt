@@ -22,22 +22,14 @@ pub fn input_number(refusal: Option<InputRefusal>) -> u64
 pub(crate) fn list_refusal(list: PreparedBal) -> Option<InputRefusal>
     ensures { result ≡ list_refusal list }
 {
-    if as_prepared(list) {
-        None
-    } else {
-        Some(InputRefusal::ListAtOdds)
-    }
+    (!as_prepared(list)).then_some(InputRefusal::ListAtOdds)
 }
 
 #[tactic(auto, unfolding(crate::specs::Inputs::waiter_refusal))]
 pub(crate) fn waiter_refusal(n: u64) -> Option<InputRefusal>
     ensures { result ≡ waiter_refusal n }
 {
-    if n < 16 {
-        None
-    } else {
-        Some(InputRefusal::WaiterOutOfRange)
-    }
+    (n >= 16).then_some(InputRefusal::WaiterOutOfRange)
 }
 
 // Asked before the state is looked at.

@@ -25,7 +25,7 @@ pub enum Call {
     Heads,
 }
 
-// Why a call is turned away by its input alone.
+// Why a call is turned away by its input alone: the two kinds, each a refusal.
 #[derive(Clone, Copy)]
 pub enum InputRefusal {
     ListAtOdds,

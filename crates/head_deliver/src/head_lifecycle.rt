@@ -17,17 +17,15 @@ use head_life::HeadLifecycle;
 use head_ready::delta_snapshot::slot_anchor;
 use head_wake::head_lifecycle::ending;
 
+// A delivery's anchor, parent hash and handle go on as document 01 lists them.
+
 // The old number, where a delivery repeats the current head's.
 #[tactic(auto, unfolding(crate::specs::Repeats::repeats, crate::specs::Repeats::repeat_of, crate::specs::Repeats::same_delivery, head_anchor::specs::Anchors::same_anchor, hash::specs::Hashes::same_hash))]
 pub(crate) fn repeated_by(life: HeadLifecycle, anchor: ReadAnchor, parent_hash: Hash) -> Option<Seq>
     ensures { result ≡ repeats (delivery life.current) anchor parent_hash }
 {
     let held = life.current.delivery()?;
-    if held.anchor == anchor && held.parent_hash == parent_hash {
-        Some(held.seq)
-    } else {
-        None
-    }
+    (held.anchor == anchor && held.parent_hash == parent_hash).then_some(held.seq)
 }
 
 // The Rust's `provisional().is_some()`.

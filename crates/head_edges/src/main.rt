@@ -16,23 +16,15 @@ use head_new::head_lifecycle::new;
 use head_step::head_lifecycle::step;
 use std::io::{self, Write};
 
-// Writes the first bytes of a line and gives their number, since no contract can speak of what is written.
-fn write_front(rt: &impl Print, line: &[u8], n: usize) -> usize
-    ensures { result ≡ n }
-{
-    if n <= line.len() {
-        let _ = io::writer(rt).write_all(&line[..n]);
-    }
-    n
-}
-
 // Prints an answer's line and gives its number.
 fn show(rt: &impl Print, answer: Answer) -> u64
     ensures { result ≡ (said answer).number }
 {
     let mut line = [0u8; 512];
     let n = put_line(&mut line, LineAnswer::Said(answer)).unwrap_or(0);
-    write_front(rt, &line, n);
+    if let Some(front) = line.get(..n) {
+        let _ = io::writer(rt).write_all(front);
+    }
     answer.number()
 }
 
@@ -41,8 +33,7 @@ fn play(rt: &impl Print, d: Driver, call: Call) -> Driver
     ensures { result ≡ (step d call).driver }
 {
     let turn = step(d, call);
-    let answer = turn.answer;
-    show(rt, answer);
+    show(rt, turn.answer);
     turn.driver
 }
 

@@ -13,6 +13,8 @@ use head_ready::{HeadCold, HeadReadiness, HeadView, Source};
 use head_snapshot::head_lifecycle::viewed;
 use head_view::head_lifecycle::view_at;
 
+// The calls' parameters, a driver, a waiter's number, an anchor and a handle, go on from call to call as document 01 lists them.
+
 // What a wait shows of a view that no live preparation owns.
 #[tactic(auto, unfolding(crate::specs::Calls::unowned, crate::specs::Calls::unowned_readiness, crate::specs::Calls::unowned_reason))]
 pub(crate) fn unowned(view: HeadView) -> HeadView

@@ -27,17 +27,14 @@ pub(crate) fn woken(end: HeadCompletion, anchor: ReadAnchor, waiter: Waiter) -> 
 pub(crate) fn wake(
     end: HeadCompletion,
     anchor: ReadAnchor,
-    waiters: [WaiterSlot; 16],
+    mut waiters: [WaiterSlot; 16],
 ) -> [WaiterSlot; 16]
     ensures { result ≡ wake end anchor waiters }
 {
-    let mut out = waiters;
-    for slot in &mut out {
-        *slot = WaiterSlot {
-            waiter: woken(end, anchor, slot.waiter),
-        };
+    for slot in &mut waiters {
+        slot.waiter = woken(end, anchor, slot.waiter);
     }
-    out
+    waiters
 }
 
 // Only a preparing head has waiters parked on it.

@@ -9,7 +9,6 @@ ghost use Rattle.line_reader.specs.Reads.{rest, rest_after};
 ghost use Rattle.text.specs.Rests.{after, at_end, past_word, says, word_here};
 
 use text::word::{next_word, rest};
-use text_same::same;
 
 #[derive(Clone, Copy)]
 pub struct LineReader<'a> {
@@ -38,14 +37,14 @@ impl<'a> LineReader<'a> {
     }
 
     // Takes the next word where it is that keyword; nothing is taken where it is another.
-    #[tactic(auto, unfolding(text::specs::Rests::says))]
+    #[tactic(auto, using(text::proofs::Same::same_pointwise), unfolding(text::specs::Rests::says))]
     pub fn past_keyword(&mut self, keyword: &[u8]) -> bool
         ensures said { result ≡ says keyword.now (rest self.old) }
         ensures reader { self.new ≡ cond result (took_word self.old) self.old }
         ensures rest { cond result (past_word (rest self.old)) (rest self.old) ≡ rest self.new }
     {
         let mut ahead = *self;
-        if !same(ahead.take_word(), keyword) {
+        if ahead.take_word() != keyword {
             return false;
         }
         *self = ahead;

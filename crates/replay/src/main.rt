@@ -75,13 +75,10 @@ fn compared(t: Tally, equal: bool) -> Tally
 fn same_front(a: &[u8], m: usize, b: &[u8], n: usize) -> bool
     ensures { result ≡ same_front a.now m b.now n }
 {
-    if m > a.len() {
-        return false;
+    match (a.get(..m), b.get(..n)) {
+        (Some(a), Some(b)) => same(a, b),
+        _ => false,
     }
-    if n > b.len() {
-        return false;
-    }
-    same(&a[..m], &b[..n])
 }
 
 fn all_at(n: u64) -> HeadStats
@@ -121,10 +118,7 @@ fn started(n: u64) -> Driver
 fn collected(wanted: usize, line: &[u8], want: &mut [u8]) -> usize
     ensures { Collects wanted line.now want.old want.new result }
 {
-    if wanted >= want.len() {
-        return wanted;
-    }
-    if line.len() >= want.len() - wanted {
+    if wanted >= want.len() || line.len() >= want.len() - wanted {
         return wanted;
     }
     let at = put(want, wanted, line);
@@ -198,10 +192,9 @@ fn call_compared(
     ensures { result ≡ call_compared d s call.now held want.now out.old }
 {
     let printed = finish(d, call, held, out);
-    let driver = printed.driver;
     let equal = same_front(want, s.wanted, out, printed.written);
     Replay {
-        driver,
+        driver: printed.driver,
         standing: after_call(s, equal),
     }
 }
@@ -222,9 +215,8 @@ fn at_run(s: Standing) -> Standing
 fn run_begun(s: Standing, n: u64) -> Replay
     ensures { result ≡ run_begun s n }
 {
-    let driver = started(n);
     Replay {
-        driver,
+        driver: started(n),
         standing: at_run(s),
     }
 }
@@ -248,16 +240,16 @@ fn record_taken(d: Driver, s: Standing, line: &[u8], want: &mut [u8], out: &mut 
 {
     let held = s.held;
     let kind = mark(line, held);
-    if kind == b'>' {
-        return call_compared(d, s, &line[1..], held - 1, want, out);
-    }
-    if kind == b'#' {
-        return run_begun(s, number(line, held));
-    }
-    let wanted = answer_taken(kind, s.wanted, line, held, want);
-    Replay {
-        driver: d,
-        standing: after_answer(s, wanted),
+    match kind {
+        b'>' => call_compared(d, s, &line[1..], held - 1, want, out),
+        b'#' => run_begun(s, number(line, held)),
+        _ => {
+            let wanted = answer_taken(kind, s.wanted, line, held, want);
+            Replay {
+                driver: d,
+                standing: after_answer(s, wanted),
+            }
+        }
     }
 }
 

@@ -1,4 +1,5 @@
 -- The line of every call is made of bytes, and none of them is a line feed.
+use Rattle.std.proofs.lemmas.Bool.{cond_both, and_parts}
 use Rattle.std.specs.Prelude.{Option, None, Some, ◌&&◌}
 use Prim.Native.Nat.{ℕ, zero, suc, ◌+◌, ◌<◌, ◌≤◌, ◌/◌, ◌%◌}
 use native.Mathlib.Omega.{arith}
@@ -7,7 +8,6 @@ use mathlib.Core.List.{List, [], ◌∷◌, ◌++◌}
 use mathlib.Core.Path.{◌≡◌, refl}
 use lib.Dec.{leb, ltb}
 use borrow.Author.Tests.{leb-true, ltb-true}
-use Rattle.alike.proofs.Tests.{both_left, both_right, by_if}
 use Rattle.head_anchor.specs.Values.{anchor_value, block_hash_value, skip_value, slot_value}
 use Rattle.value_text.specs.Texts.{anchor_text, block_hash_text, skip_text, slot_text}
 use Rattle.value_text.specs.Values.{hash_text, value_text}
@@ -58,14 +58,14 @@ quoted : (s : List ℕ) → plain_test s ≡ true → AllPlain s
 unfolding plain_test AllPlain
 quoted [] e = tt
 quoted (b ∷ s) e =
-    let here = both_left (leb 32 b && ltb b 128) (plain_test s) e in
-    ((leb-true 32 b (both_left (leb 32 b) (ltb b 128) here), ltb-true b 128 (both_right (leb 32 b) (ltb b 128) here)), quoted s (both_right (leb 32 b && ltb b 128) (plain_test s) e))
+    let here = (and_parts (leb 32 b && ltb b 128) (plain_test s) e).0 in
+    ((leb-true 32 b ((and_parts (leb 32 b) (ltb b 128) here).0), ltb-true b 128 ((and_parts (leb 32 b) (ltb b 128) here).1)), quoted s ((and_parts (leb 32 b && ltb b 128) (plain_test s) e).1))
 
 decimal_on_plain : (k n : ℕ) (s : List ℕ) → AllPlain s → AllPlain (decimal_on k n s)
 unfolding decimal_on AllPlain
 decimal_on_plain zero n s f = f
 decimal_on_plain (suc k) n s f =
-    by_if AllPlain (ltb n 10) _ _
+    cond_both (ltb n 10) _ _ AllPlain
     (λ e. let h = ltb-true n 10 e in ((omega arith, omega arith), f))
     (λ e. decimal_on_plain k (n / 10) ((48 + n % 10) ∷ s) ((omega arith, omega arith), f))
 
@@ -75,7 +75,7 @@ decimal_plain n = decimal_on_plain 20 n [] tt
 
 glyph_plain : (d : ℕ) → d < 16 → Plain (glyph d)
 unfolding glyph
-glyph_plain d h = by_if Plain (ltb d 10) _ _ (λ e. let g = ltb-true d 10 e in (omega arith, omega arith)) (λ e. (omega arith, omega arith))
+glyph_plain d h = cond_both (ltb d 10) _ _ Plain (λ e. let g = ltb-true d 10 e in (omega arith, omega arith)) (λ e. (omega arith, omega arith))
 
 hex_on_plain : (k n : ℕ) (s : List ℕ) → AllPlain s → AllPlain (hex_on k n s)
 unfolding hex_on AllPlain

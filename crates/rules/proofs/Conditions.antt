@@ -1,4 +1,6 @@
 -- The tests of the state machine decide document 01's conditions.
+use Rattle.std.proofs.lemmas.Option.{same_Some}
+use Rattle.std.proofs.lemmas.Bool.{and_parts}
 use Rattle.std.specs.Prelude.{is_some}
 use Rattle.std.specs.Prelude.{Option, None, Some, cond}
 use Rattle.head_ready.specs.declared.Generation.{Generation}
@@ -9,7 +11,7 @@ use mathlib.Core.Logic.{◌↔◌}
 use mathlib.Core.Path.{◌≡◌, refl, ap, sym}
 use lib.Dec.{eqb, ltb}
 use borrow.Author.Tests.{eqb-true, ltb-false, ltb-true}
-use Rattle.alike.proofs.Tests.{anchor_same, both_left, both_right, eqb_same, same_anchor_lem, same_holds, holds_same, true_false, at_same, nothing_at}
+use Rattle.alike.proofs.Tests.{anchor_same, eqb_same, same_anchor_lem, same_holds, holds_same, true_false, nothing_at}
 use Rattle.head_anchor.specs.Anchors.{holds, same_anchor}
 use Rattle.head_anchor.specs.Lists.{as_prepared, is_no_hash}
 use Rattle.head_count.specs.Counters.{same_seq}
@@ -29,20 +31,20 @@ abbrev Agree : BalSkip → Option Hash → Type 0
 Agree x h = (x ≡ BalSkip.NoHash) ↔ (h ≡ None)
 
 known_unknown : {X : Type 0} {h : Hash} → Some h ≡ None → X
-known_unknown p = let z : ◌≡◌ {A = ℕ} 0 1 = cc in absurd (omega arith)
+known_unknown p = cc
 
 -- a skip that is not `no-hash`
 abbrev Other : BalSkip → Type 0
 Other x = x ≡ BalSkip.NoHash → ⊥
 
 nothing_other : Other BalSkip.Nothing
-nothing_other p = let z : ◌≡◌ {A = ℕ} 0 1 = cc in absurd (omega arith)
+nothing_other p = cc
 
 rpc_other : (n : ℕ) → Other (BalSkip.Rpc n)
-rpc_other n p = let z : ◌≡◌ {A = ℕ} 0 1 = cc in absurd (omega arith)
+rpc_other n p = cc
 
 decode_other : (n : ℕ) → Other (BalSkip.Decode n)
-decode_other n p = let z : ◌≡◌ {A = ℕ} 0 1 = cc in absurd (omega arith)
+decode_other n p = cc
 
 abbrev agrees : BalSkip → Option Hash → Bool
 agrees x h = cond (is_no_hash x) (not (is_some h)) (is_some h)
@@ -98,8 +100,8 @@ unfolding ticket_of same_seq
 ticket_is held ticket e =
     let a = same_anchor held.anchor ticket.anchor in
     let n = eqb held.seq.0 ticket.seq.0 in
-    let q = eqb-true _ _ (both_right a n e) in
-    (sym (same_anchor_lem held.anchor ticket.anchor (both_left a n e)), sym (λ i. record { 0 = q i }))
+    let q = eqb-true _ _ ((and_parts a n e).1) in
+    (sym (same_anchor_lem held.anchor ticket.anchor ((and_parts a n e).0)), sym (λ i. record { 0 = q i }))
 
 pub ticket_is_not : (held : HeadDelivery) (ticket : HeadTicket) → ticket_of held ticket ≡ false → ¬ TicketOf held ticket
 unfolding ticket_of same_seq
@@ -113,7 +115,7 @@ anchor_is_not a b e p = true_false (anchor_same a b p) e
 pub installed_is : (g : Option Generation) (held : HeadDelivery) → holds (slot_anchor g) held.anchor ≡ true → HeadInstalled g (Some held)
 unfolding slot_anchor
 installed_is None held e = nothing_at (holds_same None held.anchor e)
-installed_is (Some g) held e = at_same (holds_same (Some g.anchor) held.anchor e)
+installed_is (Some g) held e = same_Some _ _ (holds_same (Some g.anchor) held.anchor e)
 
 pub installed_is_not : (g : Option Generation) (held : HeadDelivery) → holds (slot_anchor g) held.anchor ≡ false → ¬ HeadInstalled g (Some held)
 unfolding slot_anchor

@@ -1,11 +1,12 @@
 -- Every number that a call is answered with is below 2^64, and so is every word of its hashes, where the driver's and the call's own are.
+use Rattle.std.proofs.lemmas.Bool.{cond_both}
 use Rattle.std.specs.Prelude.{Option, None, Some, Result, Ok, Err}
 use Rattle.head_ready.specs.declared.Generation.{Generation}
 use Rattle.head_ready.specs.declared.HeadOutcome.{HeadOutcome}
 use Prim.Native.Nat.{ℕ}
 use lib.Dec.{ltb}
 use Rattle.alike.proofs.KeptRanges.{outcome_fits}
-use Rattle.alike.proofs.Tests.{by_if, up_fits}
+use Rattle.alike.proofs.Tests.{up_fits}
 use Rattle.alike.specs.Ranges as A
 use Rattle.head_call.specs.Ranges.{Writable}
 use Rattle.answer_back.specs.Ranges.{AnswerFits, HeadOutcomeFits}
@@ -99,7 +100,7 @@ seq_fits d f = up_fits d.life.seq.0 f.life.seq
 delivered_fits : (d : Driver) (s : Option HeadDelivery) (a : ReadAnchor) (p : Hash) (cold : ℕ) → A.DriverFits d → HeldFits s → Replied (deliver_as d a p cold (repeats s a p))
 unfolding deliver_as repeats repeat_of
 delivered_fits d None a p cold f g = seq_fits d f
-delivered_fits d (Some held) a p cold f g = by_if (λ r. Replied (deliver_as d a p cold r)) (same_delivery held a p) _ _ (λ e. g.seq) (λ e. seq_fits d f)
+delivered_fits d (Some held) a p cold f g = cond_both (same_delivery held a p) _ _ (λ r. Replied (deliver_as d a p cold r)) (λ e. g.seq) (λ e. seq_fits d f)
 
 -- ---- claim
 
@@ -110,8 +111,8 @@ StartFits (Err o) = HeadOutcomeFits o
 gate_fits : (i : Option ReadAnchor) (held : HeadDelivery) (ticket : HeadTicket) (next : Result Epoch HeadOutcome) → DeliveryFits held → StartFits next → StartFits (claim_gate i held ticket next)
 unfolding claim_gate
 gate_fits i held ticket next f g =
-    by_if StartFits (ticket_of held ticket) _ _
-    (λ e. by_if StartFits (holds i ticket.anchor) _ _ (λ e. tt) (λ e. g))
+    cond_both (ticket_of held ticket) _ _ StartFits
+    (λ e. cond_both (holds i ticket.anchor) _ _ StartFits (λ e. tt) (λ e. g))
     (λ e. f.anchor)
 
 start_fits : (i : Option ReadAnchor) (e : Epoch) (c : CurrentHead) (ticket : HeadTicket) → Fits e.0 → HeadFits c → AnchorFits ticket.anchor → StartFits (claim_start_at i e c ticket)
@@ -138,8 +139,8 @@ unfolding plan_held
 plan_fits i None ticket list f t l = t
 plan_fits i (Some held) ticket list f t l =
     let h = f.anchor in
-    by_if PlanFits (ticket_of held ticket) _ _
-    (λ e. by_if PlanFits (same_anchor list held.anchor) _ _ (λ e. by_if PlanFits (holds i held.anchor) _ _ (λ e. tt) (λ e. tt)) (λ e. (l, h)))
+    cond_both (ticket_of held ticket) _ _ PlanFits
+    (λ e. cond_both (same_anchor list held.anchor) _ _ PlanFits (λ e. cond_both (holds i held.anchor) _ _ PlanFits (λ e. tt) (λ e. tt)) (λ e. (l, h)))
     (λ e. h)
 
 applied_fits : (d : Driver) (skip : BalSkip) (handle carried report : ℕ) (plan : ApplyPlan) → SkipFits skip → Fits carried → PlanFits plan → Replied (apply_as d skip handle carried report plan)
@@ -155,16 +156,16 @@ ViewFits v = Fits v.handle × ReadinessFits v.readiness
 
 spare_fits : (s : Option ReadAnchor) (a : ReadAnchor) (spare : ℕ) → Fits spare → ViewFits (spare_view s a spare)
 unfolding spare_view spare_reason
-spare_fits s a spare f = (f, by_if ColdFits (holds s a) _ _ (λ e. tt) (λ e. tt))
+spare_fits s a spare f = (f, cond_both (holds s a) _ _ ColdFits (λ e. tt) (λ e. tt))
 
 generation_fits : (source : Source) (g : Option Generation) (a : ReadAnchor) (other : HeadView) → GenerationSlotFits g → ViewFits other → ViewFits (generation_view source g a other)
 unfolding generation_view
 generation_fits source None a other f h = h
-generation_fits source (Some g) a other f h = by_if ViewFits (same_anchor g.anchor a) _ _ (λ e. (f.handle, f.readiness)) (λ e. h)
+generation_fits source (Some g) a other f h = cond_both (same_anchor g.anchor a) _ _ ViewFits (λ e. (f.handle, f.readiness)) (λ e. h)
 
 provisional_fits : (u : UnsettledHead) (a : ReadAnchor) (other : HeadView) → UnsettledFits u → ViewFits other → ViewFits (provisional_view u a other)
 unfolding provisional_view
-provisional_fits u a other f h = by_if ViewFits (same_anchor u.delivery.anchor a) _ _ (λ e. (f.provisional, tt)) (λ e. h)
+provisional_fits u a other f h = cond_both (same_anchor u.delivery.anchor a) _ _ ViewFits (λ e. (f.provisional, tt)) (λ e. h)
 
 current_view_fits : (c : CurrentHead) (a : ReadAnchor) (other : HeadView) → HeadFits c → ViewFits other → ViewFits (current_view c a other)
 unfolding current_view
@@ -199,13 +200,13 @@ unowned_fits v f = (f.0, shown_fits v.readiness f.1)
 
 abandoned_fits : (v : HeadView) (spare : ℕ) → ViewFits v → Fits spare → ViewFits (abandoned_view v spare)
 unfolding abandoned_view
-abandoned_fits v spare f h = by_if ViewFits (is_ready v.readiness) _ _ (λ e. (h, tt)) (λ e. (f.0, tt))
+abandoned_fits v spare f h = cond_both (is_ready v.readiness) _ _ ViewFits (λ e. (h, tt)) (λ e. (f.0, tt))
 
 -- ---- wait and resume
 
 join_fits : (d : Driver) (n : ℕ) (a : ReadAnchor) (spare : ℕ) → A.DriverFits d → Fits spare → Replied (join d n a spare)
 unfolding join viewed_by viewed
-join_fits d n a spare f h = by_if Replied (preparing_at d.life.current a) _ _ (λ e. tt) (λ e. unowned_fits (view d.life a spare) (view_fits d.life a spare f.life h))
+join_fits d n a spare f h = cond_both (preparing_at d.life.current a) _ _ Replied (λ e. tt) (λ e. unowned_fits (view d.life a spare) (view_fits d.life a spare f.life h))
 
 wait_fits : (d : Driver) (w : Waiter) (n : ℕ) (a : ReadAnchor) (spare : ℕ) → A.DriverFits d → Fits spare → Replied (wait_as d w n a spare)
 unfolding wait_as
@@ -227,14 +228,14 @@ dispatch_fits : (d : Driver) (c : Call) → A.DriverFits d → Writable c → Re
 unfolding dispatch deliver claim claim_start release apply plan_apply snapshot viewed wait resume completion link report stats heads
 dispatch_fits d (Call.Deliver a p cold) f r = delivered_fits d (delivery d.life.current) a p cold f (delivery_fits d.life.current f.life.current)
 dispatch_fits d (Call.Claim ticket) f r = claimed_fits d _ (start_fits _ d.life.claim_epoch d.life.current ticket f.life.epoch f.life.current r.0)
-dispatch_fits d (Call.Release owner) f r = by_if Replied (owned_by d.life.current owner) _ _ (λ e. tt) (λ e. tt)
+dispatch_fits d (Call.Release owner) f r = cond_both (owned_by d.life.current owner) _ _ Replied (λ e. tt) (λ e. tt)
 dispatch_fits d (Call.Apply ticket list handle carried report) f r =
-    by_if Replied (as_prepared list) _ _
+    cond_both (as_prepared list) _ _ Replied
     (λ e. applied_fits d list.skip handle carried report _ r.3 r.5 (plan_fits _ (delivery d.life.current) ticket list.anchor (delivery_fits d.life.current f.life.current) r.0 r.2))
     (λ e. tt)
 dispatch_fits d (Call.Snapshot a spare) f r = view_fits d.life a spare f.life r.1
-dispatch_fits d (Call.Wait n a spare) f r = by_if Replied (ltb n 16) _ _ (λ e. wait_fits d (waiter_at d.waiters n) n a spare f r.2) (λ e. tt)
-dispatch_fits d (Call.Resume n spare) f r = by_if Replied (ltb n 16) _ _ (λ e. resume_fits d (waiter_at d.waiters n) n spare f r.1) (λ e. tt)
+dispatch_fits d (Call.Wait n a spare) f r = cond_both (ltb n 16) _ _ Replied (λ e. wait_fits d (waiter_at d.waiters n) n a spare f r.2) (λ e. tt)
+dispatch_fits d (Call.Resume n spare) f r = cond_both (ltb n 16) _ _ Replied (λ e. resume_fits d (waiter_at d.waiters n) n spare f r.1) (λ e. tt)
 dispatch_fits d (Call.Completion a) f r = tt
 dispatch_fits d (Call.Link parent child p) f r = tt
 dispatch_fits d Call.Report f r = current_report_fits d.life.current f.life.current

@@ -94,7 +94,7 @@ abbrev line_of : Call → Entry
 line_of c = record { line = call_text c; buffer = [] }
 
 made_sheet : {c : Call} → Some (LineCall.Make c) ≡ Some LineCall.Sheet → ⊥
-made_sheet p = let z : ◌≡◌ {A = ℕ} 0 1 = cc in absurd (omega arith)
+made_sheet p = cc
 
 not_sheet : (c : Call) → Writable c → ¬ (call_text c ≡ sheet_call_text)
 not_sheet c r e = made_sheet (sym (call_back c r) ∙ ap call e ∙ sheet_back)

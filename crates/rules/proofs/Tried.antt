@@ -1,4 +1,5 @@
 -- Every call against the conditions that it tests, in their order, and what it leaves where one of them applies.
+use Rattle.std.proofs.lemmas.Bool.{cond_both}
 use Rattle.head_ready.specs.declared.Generation.{Generation}
 use Rattle.head_count.specs.declared.Seq.{Seq}
 use Rattle.head_ready.specs.declared.HeadOutcome.{HeadOutcome}
@@ -9,7 +10,7 @@ use mathlib.Core.Logic.{◌⊎◌, inl, inr}
 use mathlib.Core.Path.{◌≡◌, refl}
 use lib.Dec.{ltb}
 use Rattle.std.specs.Prelude.{Some, Option, None, Result}
-use Rattle.alike.proofs.Tests.{by_if, same_anchor_lem}
+use Rattle.alike.proofs.Tests.{same_anchor_lem}
 use Rattle.head_anchor.specs.Anchors.{holds, same_anchor}
 use Rattle.head_anchor.specs.Lists.{as_prepared}
 use Rattle.head_apply.specs.Apply.{apply, apply_as, settle_as}
@@ -83,10 +84,10 @@ module _ (d : Driver) (ticket : HeadTicket) (i : Option Generation) where
   unfolding claim_gate claim_as
   gate_met held Settled ts next settled later =
       let all = superseded (Some held) ticket ∷ (test Settled 13 [] ∷ ts) in
-      by_if (Claims all) (ticket_of held ticket) _ _
+      cond_both (ticket_of held ticket) _ _ (Claims all)
       (λ e.
       let t = ticket_is held ticket e in
-      by_if (Claims all) (holds (slot_anchor i) ticket.anchor) _ _
+      cond_both (holds (slot_anchor i) ticket.anchor) _ _ (Claims all)
       (λ h. past (λ n. n t) (record { first = inl (settled (installed_is i held (rw t.0 at h)), refl); leaves = refl }))
       (λ h. past (λ n. n t) (later (installed_is_not i held (rw t.0 at h)))))
       (λ e. record { first = inl (ticket_is_not held ticket e, refl); leaves = refl })
@@ -111,11 +112,11 @@ module _ (d : Driver) (ticket : HeadTicket) (list : PreparedBal) (handle carried
   plan_met i (Some held) =
       let s = Some held in
       let all = superseded s ticket ∷ (foreign s list ∷ (already_installed i s ∷ [])) in
-      by_if (Applies all) (ticket_of held ticket) _ _
+      cond_both (ticket_of held ticket) _ _ (Applies all)
       (λ e. past (λ n. n (ticket_is held ticket e))
-      (by_if (Applies (foreign s list ∷ (already_installed i s ∷ []))) (same_anchor list.anchor held.anchor) _ _
+      (cond_both (same_anchor list.anchor held.anchor) _ _ (Applies (foreign s list ∷ (already_installed i s ∷ [])))
       (λ f. past (λ n. n (same_anchor_lem list.anchor held.anchor f))
-      (by_if (Applies (already_installed i s ∷ [])) (holds (slot_anchor i) held.anchor) _ _
+      (cond_both (holds (slot_anchor i) held.anchor) _ _ (Applies (already_installed i s ∷ []))
       (λ h. record { first = inl (installed_is i held h, refl); leaves = refl })
       (λ h. past (installed_is_not i held h) (record { first = refl; leaves = tt }))))
       (λ f. record { first = inl (anchor_is_not list.anchor held.anchor f, refl); leaves = refl })))
@@ -124,17 +125,17 @@ module _ (d : Driver) (ticket : HeadTicket) (list : PreparedBal) (handle carried
 -- ---- wait and resume
 
 parked_taken : {X : Type 0} → Waiter.Parked ≡ Waiter.Free → X
-parked_taken p = let z : ◌≡◌ {A = ℕ} 0 1 = cc in absurd (omega arith)
+parked_taken p = cc
 
 abandoned_taken : {a : ReadAnchor} {X : Type 0} → Waiter.Abandoned a ≡ Waiter.Free → X
-abandoned_taken p = let z : ◌≡◌ {A = ℕ} 0 1 = cc in absurd (omega arith)
+abandoned_taken p = cc
 
 ended_taken : {a : ReadAnchor} {X : Type 0} → Waiter.Ended a ≡ Waiter.Free → X
-ended_taken p = let z : ◌≡◌ {A = ℕ} 0 1 = cc in absurd (omega arith)
+ended_taken p = cc
 
 join_met : (d : Driver) (c : Call) (n : ℕ) (a : ReadAnchor) (spare : ℕ) → Met d c [] (join d n a spare)
 unfolding join viewed_by viewed
-join_met d c n a spare = by_if (Met d c []) (preparing_at d.life.current a) _ _ (λ e. record { first = refl; leaves = tt }) (λ e. record { first = refl; leaves = tt })
+join_met d c n a spare = cond_both (preparing_at d.life.current a) _ _ (Met d c []) (λ e. record { first = refl; leaves = tt }) (λ e. record { first = refl; leaves = tt })
 
 wait_met : (d : Driver) (w : Waiter) (n : ℕ) (a : ReadAnchor) (spare : ℕ) → Met d (Call.Wait n a spare) (not_free w ∷ []) (wait_as d w n a spare)
 unfolding wait_as
@@ -161,21 +162,21 @@ dispatch_met : (d : Driver) (c : Call) → Met d c (call_tests d c) (dispatch d 
 unfolding dispatch deliver claim claim_start release apply plan_apply snapshot viewed wait resume completion link report stats heads
 dispatch_met d (Call.Deliver a p cold) = deliver_met d a p cold (repeats (delivery d.life.current) a p)
 dispatch_met d (Call.Claim ticket) = claim_met d ticket d.life.installed d.life.claim_epoch d.life.current
-dispatch_met d (Call.Release owner) = by_if (Met d (Call.Release owner) []) (owned_by d.life.current owner) _ _ (λ e. record { first = refl; leaves = tt }) (λ e. record { first = refl; leaves = tt })
+dispatch_met d (Call.Release owner) = cond_both (owned_by d.life.current owner) _ _ (Met d (Call.Release owner) []) (λ e. record { first = refl; leaves = tt }) (λ e. record { first = refl; leaves = tt })
 dispatch_met d (Call.Apply ticket list handle carried report) =
     let c = Call.Apply ticket list handle carried report in
-    by_if (Met d c (call_tests d c)) (as_prepared list) _ _
+    cond_both (as_prepared list) _ _ (Met d c (call_tests d c))
     (λ e. past (list_agrees list e) (plan_met d ticket list handle carried report d.life.installed (delivery d.life.current)))
     (λ e. record { first = inl (list_at_odds list e, refl); leaves = refl })
 dispatch_met d (Call.Snapshot a spare) = record { first = refl; leaves = tt }
 dispatch_met d (Call.Wait n a spare) =
     let c = Call.Wait n a spare in
-    by_if (Met d c (call_tests d c)) (ltb n 16) _ _
+    cond_both (ltb n 16) _ _ (Met d c (call_tests d c))
     (λ e. past (number_low n e) (wait_met d (waiter_at d.waiters n) n a spare))
     (λ e. record { first = inl (number_high n e, refl); leaves = refl })
 dispatch_met d (Call.Resume n spare) =
     let c = Call.Resume n spare in
-    by_if (Met d c (call_tests d c)) (ltb n 16) _ _
+    cond_both (ltb n 16) _ _ (Met d c (call_tests d c))
     (λ e. past (number_low n e) (resume_met d (waiter_at d.waiters n) n spare))
     (λ e. record { first = inl (number_high n e, refl); leaves = refl })
 dispatch_met d (Call.Completion a) = record { first = refl; leaves = tt }

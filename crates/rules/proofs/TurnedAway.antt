@@ -1,4 +1,5 @@
 -- Demand 1 over lines: a line is turned away exactly by the first condition that applies, and changes no more than document 01 says.
+use Rattle.std.proofs.lemmas.Option.{same_Some}
 use Rattle.head_ready.specs.declared.Generation.{Generation}
 use Prim.Native.Nat.{ℕ}
 use native.Mathlib.Omega.{arith}
@@ -10,7 +11,7 @@ use lib.Dec.{ltb}
 use lib.ListN.{length}
 use borrow.Author.Tests.{ltb-false, ltb-true}
 use Rattle.std.specs.Prelude.{Option, Some, None}
-use Rattle.alike.proofs.Tests.{at_same, nothing_at}
+use Rattle.alike.proofs.Tests.{nothing_at}
 use Rattle.alike.specs.Invariant.{WhenSettled}
 use Rattle.driver.specs.Turns.{made, sheet_after, sheet_answer, turn_of}
 use Rattle.head_current.specs.Heads.{delivery}
@@ -54,10 +55,10 @@ kept d c buffer Refusal.accepted d' e = tt
 kept d c buffer (Refusal.refused n names) d' e = (e, refl)
 
 no_call_sheet : {X : Type 0} → None ≡ Some LineCall.Sheet → X
-no_call_sheet p = let z : ◌≡◌ {A = ℕ} 0 1 = cc in absurd (omega arith)
+no_call_sheet p = cc
 
 no_call_made : {X : Type 0} {c : Call} → None ≡ Some (LineCall.Make c) → X
-no_call_made p = let z : ◌≡◌ {A = ℕ} 0 1 = cc in absurd (omega arith)
+no_call_made p = cc
 
 -- a line that is read as no call is none
 is_no_call : (line : List ℕ) → call line ≡ None → (no_call line).applies
@@ -103,7 +104,7 @@ turned_away d line buffer =
 anchor_installed : (i : Option Generation) (held : HeadDelivery) → slot_anchor i ≡ Some held.anchor → HeadInstalled i (Some held)
 unfolding slot_anchor
 anchor_installed None held e = nothing_at e
-anchor_installed (Some g) held e = at_same e
+anchor_installed (Some g) held e = same_Some _ _ e
 
 head_installed : (i : Option Generation) (c : CurrentHead) → WhenSettled c (λ s. slot_anchor i ≡ Some s.delivery.anchor) → IsSettled c → HeadInstalled i (delivery c)
 unfolding delivery

@@ -17,7 +17,7 @@ pub struct Printed {
     pub written: usize,
 }
 
-// Where the reading of an input stands: the driver, how many bytes of a line are held, and how many bytes of the input were taken and of the output written.
+// Where the reading of an input stands, beside the buffers that the caller lends: the driver, how many bytes of a line are held, and how many bytes of the input were taken and of the output written.
 #[derive(Clone, Copy)]
 pub struct Fed {
     pub driver: Driver,
@@ -86,6 +86,7 @@ pub fn feed(d: Driver, pending: &mut [u8], held: usize, input: &[u8], out: &mut 
 pub fn finish(d: Driver, pending: &[u8], held: usize, out: &mut [u8]) -> Printed
     ensures { Finishes (reading d pending.now held) out.old out.new result }
 {
+    // One test in another, so that each way out knows which of them failed: with `&&` the proof doesn't close.
     if held > 0 {
         if usable(pending.len(), held, out.len()) {
             return print_line(d, &pending[..held], out);

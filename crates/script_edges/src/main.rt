@@ -1,6 +1,6 @@
 // Plays scripts parted by `%` from its standard input, each from a new driver and byte by byte, so that every line comes in parts, and writes a line `%`
 // after each. Then `(sheet)` into buffers of 4,095 and of 4,096 bytes. The expected output is written from document 01.
-// Knows nothing of how answers come about.
+// Knows nothing of how answers come about. The part of a line that is held goes beside its count, as `feed` asks for it.
 #![tactic(auto)]
 
 ghost use Rattle.std.specs.Prelude.{◌≤◌, ◌≡◌, length};

@@ -6,13 +6,14 @@ use hash::Hash;
 use hash_text::put_hash;
 use text_put::TextWriter;
 
+// Two kinds of text, neither of which is none.
 #[derive(Clone, Copy)]
 pub enum Page {
     Line,
     Sheet,
 }
 
-// Puts a hash as the page has it.
+// Puts a hash as the page has it. Both have it alike; the two cases say which text is meant.
 #[tactic(auto, unfolding(crate::specs::Values::hash_text))]
 pub(crate) fn put_hash_on(out: &mut TextWriter<'_>, page: Page, hash: Hash)
     requires { Room out.old 64 }

@@ -20,19 +20,11 @@ pub(crate) fn record_view(stats: &mut HeadStats, ready: bool)
     }
 }
 
-// The same of a record by value, which is lent to it. Each view that is counted comes this way.
-pub(crate) fn with_view(mut stats: HeadStats, ready: bool) -> HeadStats
-    ensures { result ≡ record_view ready stats }
-{
-    record_view(&mut stats, ready);
-    stats
-}
-
-// The lifecycle after a view of that readiness was answered.
+// The lifecycle after a view of that readiness was answered: it lends its counters. Each view that is counted comes this way.
 #[tactic(auto, unfolding(head_life::specs::State::view_counted))]
 pub fn count_view(mut life: HeadLifecycle, readiness: HeadReadiness) -> HeadLifecycle
     ensures { result ≡ view_counted life readiness }
 {
-    life.stats = with_view(life.stats, readiness.is_ready());
+    record_view(&mut life.stats, readiness.is_ready());
     life
 }
