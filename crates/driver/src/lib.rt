@@ -11,12 +11,14 @@ pub use script_answer::{LineAnswer, put_line};
 use script_call::{LineCall, read_call};
 use script_sheet::put_sheet;
 
+// A type of its own, as `Reply` says.
 #[derive(Clone, Copy)]
 pub struct Turn {
     pub driver: Driver,
     pub answer: LineAnswer,
 }
 
+// Named as its definition; a `From` would name none.
 #[tactic(auto, unfolding(crate::specs::Turns::made))]
 pub(crate) fn made(reply: Reply) -> Turn
     ensures { result ≡ made reply }
@@ -27,6 +29,7 @@ pub(crate) fn made(reply: Reply) -> Turn
     }
 }
 
+// Named as its definition; a `From` would name none.
 #[tactic(auto, unfolding(crate::specs::Turns::sheet_answer))]
 pub(crate) fn sheet_answer(written: Option<usize>) -> LineAnswer
     ensures { result ≡ sheet_answer written }

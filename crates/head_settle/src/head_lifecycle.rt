@@ -54,6 +54,7 @@ pub(crate) fn settled_head(
     })
 }
 
+// Named as its definition and the Rust name it; a `From` would name none.
 #[tactic(auto, unfolding(head_ready::specs::Generations::settled_readiness))]
 pub(crate) fn settled_readiness(outcome: CarryOutcome) -> HeadReadiness
     ensures { result ≡ settled_readiness outcome }

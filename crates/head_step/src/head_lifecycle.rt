@@ -43,6 +43,7 @@ pub(crate) fn dispatch(d: Driver, call: Call) -> Reply
     }
 }
 
+// One match: the call itself, or one of two refusals, each an answer of its own.
 #[tactic(auto, using(head_driver::proofs::Replied::replied), unfolding(crate::specs::Steps::step))]
 pub fn step(d: Driver, call: Call) -> Reply
     ensures { Replies result (step d call) }

@@ -103,6 +103,7 @@ pub fn wait(d: Driver, n: u64, anchor: ReadAnchor, spare: u64) -> Reply
     }
 }
 
+// One match over document 01's four cases, each with a value of its own.
 #[tactic(auto, using(head_driver::proofs::Replied::replied), unfolding(crate::specs::Calls::resume, crate::specs::Calls::resume_as, crate::specs::Calls::waiter_at))]
 pub fn resume(d: Driver, n: u64, spare: u64) -> Reply
     ensures { Replies result (resume d n spare) }

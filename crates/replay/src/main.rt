@@ -1,6 +1,6 @@
 // replay: makes the calls of the recorded runs in `runs` and counts the answers that are not the recorded ones. The recording is lines, each
 // marked by its first byte: `#N` begins a run whose nine counters all stand at N, `>CALL` is a call, and the `<TEXT` lines before it are its answer.
-// Knows nothing of how answers come about, nor of what the Rust is.
+// Knows nothing of how answers come about, nor of what the Rust is. A line and an answer go beside their counts, as `keep` and `finish` ask for them.
 #![tactic(auto)]
 
 ghost use Rattle.std.specs.Prelude.{◌≤◌, ◌≡◌, length};
@@ -125,7 +125,7 @@ fn collected(wanted: usize, line: &[u8], want: &mut [u8]) -> usize
     put(want, at, b"\n")
 }
 
-// The mark of a line; 0 where there is none.
+// The mark of a line; 0 where there is none, since a recording has no such mark.
 #[tactic(auto, using(crate::proofs::Replaying::mark_empty, crate::proofs::Replaying::mark_first, crate::proofs::Replaying::mark_none))]
 fn mark(line: &[u8], held: usize) -> u8
     ensures { result ≡ mark_of line.now held }

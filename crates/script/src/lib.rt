@@ -1,4 +1,5 @@
 // A whole input: its lines answered in turn, however it is cut into reads. Knows nothing of where bytes come from and go to.
+// The part of a line that is held goes beside its count in the caller's buffer: a type that could not say too many are held would ask more of a host.
 #![tactic(auto)]
 
 ghost use Rattle.std.specs.Prelude.{◌+◌, ◌≤◌, ◌≡◌, length};
@@ -10,7 +11,7 @@ use pending::keep;
 
 mod line;
 
-// A line's answer, written at the front of a buffer, and the driver that the line leaves.
+// A line's answer, written at the front of a buffer, and the driver that the line leaves: a type of its own, as `Reply` says.
 #[derive(Clone, Copy)]
 pub struct Printed {
     pub driver: Driver,

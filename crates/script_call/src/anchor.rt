@@ -34,7 +34,7 @@ pub(crate) fn take_anchor(r: &mut LineReader<'_>) -> Option<ReadAnchor>
     Some(ReadAnchor { number, hash })
 }
 
-// An anchor, after one space.
+// An anchor, after one space; as in `spaced`.
 #[tactic(auto, using(crate::proofs::Stopped::anchor_stopped), unfolding(crate::specs::Values::spaced_anchor))]
 pub(crate) fn spaced_anchor(r: &mut LineReader<'_>) -> Option<ReadAnchor>
     ensures { Reads r.old r.new result (spaced_anchor (rest r.old)) }

@@ -20,7 +20,7 @@ mod anchor;
 mod skip;
 mod spaced;
 
-// What a line asks for. The sheet is no call on the driver: it is written into the caller's buffer.
+// What a line asks for: two kinds, neither of which is none. The sheet is no call on the driver: it is written into the caller's buffer.
 #[derive(Clone, Copy)]
 pub enum LineCall {
     Sheet,

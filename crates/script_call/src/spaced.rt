@@ -1,4 +1,4 @@
-// Numbers and hashes, each after one space.
+// Numbers and hashes, each after one space by a function of its own: one over a reader handed in is no plainer.
 ghost use Rattle.line_reader.specs.Reads.{rest, Reads};
 ghost use Rattle.script_call.specs.Values.{spaced_hash};
 ghost use Rattle.value_text.specs.Reads.{spaced_number};

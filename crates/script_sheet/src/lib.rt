@@ -24,7 +24,7 @@ pub(crate) fn put_lines(out: &mut TextWriter<'_>, d: Driver)
     put_waiters(out, d.waiters);
 }
 
-// Writes the sheet at the front of a buffer, as `put_line` an answer's line, and tells how many bytes these are. Every sheet asks for the same room, so that
+// Writes the sheet at the front of a buffer, as `put_line` an answer's line in as many lines: one function over a writer handed in would need that writer's contract written out. It tells how many bytes these are. Every sheet asks for the same room, so that
 // a host that lends 4,096 bytes is never refused.
 pub fn put_sheet(buf: &mut [u8], d: Driver) -> Option<usize>
     ensures { AtFront 4096 buf.old buf.new (sheet_text d) result }

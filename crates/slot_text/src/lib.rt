@@ -10,7 +10,7 @@ use text_put::TextWriter;
 use value_text::anchor::put_anchor;
 use value_text::page::Page;
 
-// Puts an anchor, or `none`.
+// Puts an anchor, or `none`: two lines, as `put_block_hash`.
 #[tactic(auto, unfolding(value_text::specs::Texts::slot_text, head_anchor::specs::Values::slot_value, value_text::specs::Texts::anchor_text, value_text::specs::Values::value_text, value_text::specs::Words::word_text))]
 pub fn put_slot(out: &mut TextWriter<'_>, page: Page, slot: Option<ReadAnchor>)
     requires { Room out.old 87 }
