@@ -65,6 +65,25 @@ fn known(number: u64) -> ReadAnchor
     }
 }
 
+// The three below each make a value of its own, which written out takes four lines at each call.
+fn ticket(anchor: ReadAnchor, seq: Seq) -> HeadTicket
+    ensures { result ≡ record { anchor = anchor; seq = seq } }
+{
+    HeadTicket { anchor, seq }
+}
+
+fn owner(seq: Seq, epoch: Epoch) -> PrepareClaim
+    ensures { result ≡ record { seq = seq; epoch = epoch } }
+{
+    PrepareClaim { seq, epoch }
+}
+
+fn list(anchor: ReadAnchor, skip: BalSkip) -> PreparedBal
+    ensures { result ≡ record { anchor = anchor; skip = skip } }
+{
+    PreparedBal { anchor, skip }
+}
+
 // E1 to E4: the link test.
 fn links(rt: &impl Print, d: Driver) -> Driver
     ensures { result ≡ d }
@@ -83,27 +102,14 @@ fn links(rt: &impl Print, d: Driver) -> Driver
 fn main(rt: HostRuntime) {
     let mut d = links(&rt, new());
     // E5, E6: a new driver, claim and apply.
-    d = play(
-        &rt,
-        d,
-        Call::Claim(HeadTicket {
-            anchor: bare(7),
-            seq: Seq(1),
-        }),
-    );
+    d = play(&rt, d, Call::Claim(ticket(bare(7), Seq(1))));
     d = play(&rt, d, Call::Stats);
     d = play(
         &rt,
         d,
         Call::Apply(
-            HeadTicket {
-                anchor: bare(7),
-                seq: Seq(1),
-            },
-            PreparedBal {
-                anchor: bare(7),
-                skip: BalSkip::NoHash,
-            },
+            ticket(bare(7), Seq(1)),
+            list(bare(7), BalSkip::NoHash),
             60,
             0,
             90,
@@ -119,30 +125,9 @@ fn main(rt: HostRuntime) {
     d = play(&rt, d, Call::Deliver(bare(7), hash_of(0), 51));
     d = play(&rt, d, Call::Stats);
     // E9: release with epoch 2 against 1; the head is preparing still.
-    d = play(
-        &rt,
-        d,
-        Call::Claim(HeadTicket {
-            anchor: bare(7),
-            seq: Seq(1),
-        }),
-    );
-    d = play(
-        &rt,
-        d,
-        Call::Release(PrepareClaim {
-            seq: Seq(1),
-            epoch: Epoch(2),
-        }),
-    );
-    d = play(
-        &rt,
-        d,
-        Call::Claim(HeadTicket {
-            anchor: bare(7),
-            seq: Seq(1),
-        }),
-    );
+    d = play(&rt, d, Call::Claim(ticket(bare(7), Seq(1))));
+    d = play(&rt, d, Call::Release(owner(Seq(1), Epoch(2))));
+    d = play(&rt, d, Call::Claim(ticket(bare(7), Seq(1))));
     // E10: waiter 15 is accepted, 16 refused 3.
     d = play(&rt, new(), Call::Wait(15, bare(7), 51));
     d = play(&rt, d, Call::Wait(16, bare(7), 51));
@@ -152,57 +137,24 @@ fn main(rt: HostRuntime) {
         &rt,
         d,
         Call::Apply(
-            HeadTicket {
-                anchor: known(1),
-                seq: Seq(1),
-            },
-            PreparedBal {
-                anchor: known(1),
-                skip: BalSkip::Nothing,
-            },
+            ticket(known(1), Seq(1)),
+            list(known(1), BalSkip::Nothing),
             60,
             0,
             90,
         ),
     );
     d = play(&rt, d, Call::Deliver(known(2), hash_of(1), 51));
-    d = play(
-        &rt,
-        d,
-        Call::Claim(HeadTicket {
-            anchor: known(2),
-            seq: Seq(2),
-        }),
-    );
+    d = play(&rt, d, Call::Claim(ticket(known(2), Seq(2))));
     d = play(&rt, d, Call::Wait(0, known(2), 52));
-    d = play(
-        &rt,
-        d,
-        Call::Release(PrepareClaim {
-            seq: Seq(2),
-            epoch: Epoch(1),
-        }),
-    );
-    d = play(
-        &rt,
-        d,
-        Call::Claim(HeadTicket {
-            anchor: known(2),
-            seq: Seq(2),
-        }),
-    );
+    d = play(&rt, d, Call::Release(owner(Seq(2), Epoch(1))));
+    d = play(&rt, d, Call::Claim(ticket(known(2), Seq(2))));
     d = play(
         &rt,
         d,
         Call::Apply(
-            HeadTicket {
-                anchor: known(2),
-                seq: Seq(2),
-            },
-            PreparedBal {
-                anchor: known(2),
-                skip: BalSkip::Nothing,
-            },
+            ticket(known(2), Seq(2)),
+            list(known(2), BalSkip::Nothing),
             61,
             5,
             91,
