@@ -8,29 +8,27 @@ use mathlib.Core.Path.{◌≡◌, refl, sym, ap, ◌∙◌}
 use native.Mathlib.Omega.{arith}
 use lib.Dec.{eqb, lit<}
 use borrow.Author.Tests.{eqb-true, eqb-false}
-use Rattle.head_anchor.specs.Anchors.{holds}
-use Rattle.head_anchor.specs.Lists.{apply_prepared, as_prepared, is_linked, is_no_hash, is_read, outcome}
-use Rattle.head_apply.specs.Apply.{apply, apply_as, settle_as}
+use Rattle.head_values.specs.Anchors.{holds}
+use Rattle.head_values.specs.Lists.{apply_prepared, as_prepared, is_linked, is_no_hash, is_decoded, outcome}
+use Rattle.head_calls.specs.Apply.{apply, apply_planned, apply_settled}
 use Rattle.head_attempt.specs.Attempts.{minted}
 use Rattle.head_count.specs.Counters.{same_epoch, same_seq}
 use Rattle.head_current.specs.Heads.{anchor_of, delivery}
-use Rattle.head_deliver.specs.Repeats.{repeat_of, repeats, same_delivery}
-use Rattle.head_release.specs.Owners.{owned_by, owns}
-use Rattle.head_settle.specs.Settles.{settled_head, settling_epoch, settle}
-use Rattle.head_driver.specs.Parts.{wake_current, ending_with}
-use Rattle.head_deliver.specs.Deliver.{deliver, deliver_as}
-use Rattle.head_release.specs.Release.{release}
-use Rattle.head_plan.specs.Plans.{plan_held, plan_apply}
-use Rattle.head_release.specs.Released.{released}
-use Rattle.head_deliver.specs.Delivered.{delivered, delivered_at}
-use Rattle.head_ready.specs.Generations.{previous_after, slot_anchor}
-use Rattle.head_step.specs.Dispatch.{dispatch}
+use Rattle.head_life.specs.Deliver.{repeats, deliver_life}
+use Rattle.head_current.specs.Moves.{settled_head, released_head, owned_by}
+use Rattle.head_life.specs.Apply.{record_settle, plan_apply, previous_after, settling_epoch, plan_held}
+use Rattle.head_driver.specs.Moved.{moved, woken_waiters}
+use Rattle.head_calls.specs.Deliver.{deliver}
+use Rattle.head_calls.specs.Release.{release}
+use Rattle.head_life.specs.Release.{release_life}
+use Rattle.head_ready.specs.Generations.{slot_anchor}
+use Rattle.head_step.specs.Steps.{step}
 use Rattle.hash.specs.declared.Hash.{Hash}
-use Rattle.head_anchor.specs.declared.BalSkip.{BalSkip}
-use Rattle.head_anchor.specs.declared.CarryOutcome.{CarryOutcome}
-use Rattle.head_anchor.specs.declared.Link.{Link}
-use Rattle.head_anchor.specs.declared.PreparedBal.{PreparedBal}
-use Rattle.head_anchor.specs.declared.ReadAnchor.{ReadAnchor}
+use Rattle.head_values.specs.declared.BalSkip.{BalSkip}
+use Rattle.head_values.specs.declared.CarryOutcome.{CarryOutcome}
+use Rattle.head_values.specs.declared.Link.{Link}
+use Rattle.head_values.specs.declared.PreparedBal.{PreparedBal}
+use Rattle.head_values.specs.declared.ReadAnchor.{ReadAnchor}
 use Rattle.head_count.specs.declared.Epoch.{Epoch}
 use Rattle.head_attempt.specs.declared.HeadCompletion.{HeadCompletion}
 use Rattle.head_count.specs.declared.Seq.{Seq}
@@ -44,10 +42,12 @@ use Rattle.alike.proofs.Poses.{Pose, Unsettled, current_anchor, held_at, install
 use Rattle.alike.proofs.Replies.{ticket_ok}
 use Rattle.alike.proofs.Tests.{anchor_same, eqb_same, same_anchor_lem}
 use Rattle.alike.specs.Invariant.{Ordered}
-use Rattle.head_anchor.specs.Ranges.{AnchorFits, SkipFits}
+use Rattle.head_values.specs.Ranges.{AnchorFits, SkipFits}
 use Rattle.hash.specs.Ranges.{Fits, HashFits}
 use Rattle.head_call.specs.Ranges.{Writable}
 use Rattle.head_current.specs.Parts.{report_of}
+use Rattle.alike.proofs.Nexts.{delivered_at, released_at}
+use Rattle.head_life.specs.Deliver.{new_head}
 
 -- An anchor that is in neither of two slots: one of three numbers is not theirs.
 
@@ -107,23 +107,23 @@ abbrev pub delivering : ReadAnchor → Call
 delivering a = Call.Deliver a zeros 0
 
 -- a delivery of another anchor than the current one is new
-not_repeated : (s : Option HeadDelivery) (a : ReadAnchor) (p : Hash) → holds (anchor_of s) a ≡ false → repeats s a p ≡ None
-unfolding repeats repeat_of same_delivery anchor_of holds
+not_repeated : (s : Option HeadDelivery) (a : ReadAnchor) (p : Hash) → holds (anchor_of s) a ≡ false → repeats s a p ≡ false
+unfolding repeats anchor_of holds
 not_repeated None a p e = refl
 not_repeated (Some held) a p e = rw e refl
 
 abbrev pub delivered_new : Driver → Bool → ReadAnchor → Driver
-delivered_new d here a = ending_with d (delivered_at here d.life a zeros 0) HeadCompletion.Superseded
+delivered_new d installed a = moved d (delivered_at installed d.life a zeros 0) HeadCompletion.Superseded
 
-pub deliver_new : (d : Driver) (a : ReadAnchor) (here : Bool) → holds (current_anchor d) a ≡ false → holds (installed_anchor d) a ≡ here → (dispatch d (delivering a)).driver ≡ delivered_new d here a
-unfolding dispatch deliver deliver_as delivered
-deliver_new d a here e o = rw (not_repeated (delivery d.life.current) a zeros e, o) refl
+pub deliver_new : (d : Driver) (a : ReadAnchor) (installed : Bool) → holds (current_anchor d) a ≡ false → holds (installed_anchor d) a ≡ installed → (step d (delivering a)).driver ≡ delivered_new d installed a
+unfolding step deliver deliver_life new_head
+deliver_new d a installed e o = rw (not_repeated (delivery d.life.current) a zeros e, o) refl
 
 -- Release.
 
 pub release_hit : (d : Driver) → Ordered d.life → (u : UnsettledHead) → d.life.current ≡ CurrentHead.Preparing u → (n : Seq) (e : Epoch) → d.life.seq ≡ n → d.life.claim_epoch ≡ e
-    → (dispatch d (Call.Release (record { seq = n; epoch = e }))).driver ≡ ending_with d (released d.life) HeadCompletion.Abandoned
-unfolding dispatch release owned_by owns same_seq same_epoch delivery minted
+    → (step d (Call.Release (record { seq = n; epoch = e }))).driver ≡ moved d (released_at d.life u) HeadCompletion.Abandoned
+unfolding step release release_life released_head owned_by same_seq same_epoch delivery minted
 release_hit d v u q n e p r =
     let s : u.delivery.seq ≡ n = (rw q at v.seq_current) ∙ p in
     let t : u.attempt.epoch ≡ e = ap (λ x. x.epoch) (rw q at v.preparing_attempt) ∙ r in
@@ -149,7 +149,7 @@ cold_prepared None n = refl
 cold_prepared (Some h) n = refl
 
 cold_previous : (h : Option Hash) (link : Link) (i : Option Generation) → previous_after i (outcome link (cold_skip h) 0) ≡ None
-unfolding previous_after outcome cold_skip is_linked is_read
+unfolding previous_after outcome cold_skip is_linked is_decoded
 cold_previous None Link.Linked i = refl
 cold_previous (Some h) Link.Linked i = refl
 cold_previous h Link.NoParent i = refl
@@ -171,12 +171,12 @@ pub record Colded (d : Driver) (a : ReadAnchor) (e : Driver) : Type 0 where
   pub keeps : e.life.superseded ≡ d.life.superseded
   pub installs : installed_anchor e ≡ Some a
   pub empties : e.life.previous ≡ None
-  pub wakes : e.waiters ≡ wake_current HeadCompletion.Settled d.life.current d.waiters
+  pub wakes : e.waiters ≡ woken_waiters HeadCompletion.Settled d.life.current e.life.current d.waiters
 
 settle_colded : (d : Driver) (held : HeadDelivery) (o : CarryOutcome) (a : ReadAnchor) → previous_after d.life.installed o ≡ None → held.anchor ≡ a
-    → Settles (settled_head d.life.current (settling_epoch d.life.current d.life.claim_epoch) (Some (report_of o 0))) held (Some (report_of o 0))
-    → Colded d a (ending_with d (settle d.life held.anchor o 0 0) HeadCompletion.Settled)
-unfolding settle anchor_of delivery slot_anchor
+    → Settles (settled_head d.life.current (settling_epoch d.life) (report_of o 0)) held (report_of o 0)
+    → Colded d a (moved d (record_settle d.life held.anchor o 0 0) HeadCompletion.Settled)
+unfolding moved record_settle anchor_of delivery slot_anchor
 settle_colded d held o a p q s = record {
   settles = ap pose s.1;
   anchors = ap (λ c. anchor_of (delivery c)) s.1 ∙ ap Some q;
@@ -186,8 +186,8 @@ settle_colded d held o a p q s = record {
   wakes = refl;
 }
 
-pub cold_step : (d : Driver) → Ordered d.life → Unsettled (pose d.life.current) → (a : ReadAnchor) → current_anchor d ≡ Some a → Colded d a (dispatch d (cold_call a d.life.seq)).driver
-unfolding cold_call dispatch apply plan_apply plan_held apply_as settle_as apply_prepared
+pub cold_step : (d : Driver) → Ordered d.life → Unsettled (pose d.life.current) → (a : ReadAnchor) → current_anchor d ≡ Some a → Colded d a (step d (cold_call a d.life.seq)).driver
+unfolding cold_call step apply plan_apply plan_held apply_planned apply_settled apply_prepared
 cold_step d v u a e =
     let h = held_at (delivery d.life.current) a e in
     let held = h.0 in

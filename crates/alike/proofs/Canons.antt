@@ -6,11 +6,11 @@ use mathlib.Core.Bool.{false}
 use mathlib.Core.List.{List}
 use mathlib.Core.Path.{◌≡◌, refl, ◌∙◌}
 use lib.Dec.{lit<}
-use Rattle.head_anchor.specs.Anchors.{holds}
+use Rattle.head_values.specs.Anchors.{holds}
 use Rattle.head_attempt.specs.Attempts.{minted, settled}
-use Rattle.head_current.specs.Heads.{anchor_of, delivery}
+use Rattle.head_current.specs.Heads.{anchor_of, delivery, is_settled}
 use Rattle.head_ready.specs.Generations.{slot_anchor}
-use Rattle.head_anchor.specs.declared.ReadAnchor.{ReadAnchor}
+use Rattle.head_values.specs.declared.ReadAnchor.{ReadAnchor}
 use Rattle.head_count.specs.declared.Epoch.{Epoch}
 use Rattle.head_attempt.specs.declared.HeadCompletion.{HeadCompletion}
 use Rattle.head_attempt.specs.declared.WaiterSlot.{WaiterSlot}
@@ -82,7 +82,7 @@ module _ (n : ℕ) (e : Epoch) where
   shown_twice (CurrentHead.Settled s) = refl
 
   shown_masked : (c : CurrentHead) (p : Option Generation) → masked (shown_head n e c) p ≡ masked c p
-  unfolding shown_head masked delivery anchor_of
+  unfolding shown_head masked delivery anchor_of is_settled
   shown_masked CurrentHead.Absent p = refl
   shown_masked (CurrentHead.Unclaimed u) p = refl
   shown_masked (CurrentHead.Preparing u) p = refl

@@ -1,22 +1,22 @@
 -- Probes of several calls: the last call's answer tells the part.
 use Rattle.std.proofs.lemmas.Bool.{false_from_ne_true}
-use Rattle.std.specs.Prelude.{Option, None, Some}
+use Rattle.std.specs.Prelude.{Option, None, Some, cond}
 use Rattle.head_ready.specs.declared.Generation.{Generation}
 use Prim.Native.Nat.{◌<◌}
 use mathlib.Core.Bool.{Bool, true, false}
 use mathlib.Core.Path.{◌≡◌, refl, sym, ap, ◌∙◌}
-use Rattle.head_anchor.specs.Anchors.{holds}
+use Rattle.head_values.specs.Anchors.{holds}
 use Rattle.head_count.specs.Counters.{epoch_of, next_epoch, up}
 use Rattle.head_current.specs.Heads.{anchor_of, delivery}
-use Rattle.head_deliver.specs.Delivered.{new_head}
 use Rattle.head_ready.specs.Generations.{slot_anchor}
-use Rattle.head_step.specs.Dispatch.{dispatch}
-use Rattle.head_view.specs.Views.{spare_reason, spare_view}
-use Rattle.head_anchor.specs.declared.ReadAnchor.{ReadAnchor}
+use Rattle.head_step.specs.Steps.{step}
+use Rattle.head_life.specs.Views.{spare_view}
+use Rattle.head_values.specs.declared.ReadAnchor.{ReadAnchor}
 use Rattle.head_count.specs.declared.Epoch.{Epoch}
 use Rattle.head_current.specs.declared.CurrentHead.{CurrentHead}
 use Rattle.head_driver.specs.declared.Answer.{Answer}
 use Rattle.head_driver.specs.declared.Driver.{Driver}
+use Rattle.head_ready.specs.declared.HeadCold.{HeadCold}
 use Rattle.head_ready.specs.declared.HeadReadiness.{HeadReadiness}
 use Rattle.head_ready.specs.declared.Source.{Source}
 use Rattle.head_call.specs.declared.Call.{Call}
@@ -28,12 +28,14 @@ use Rattle.alike.proofs.Replies.{snapshot_previous, snapshot_spare}
 use Rattle.alike.proofs.Tests.{by_test, holds_same, same_holds, true_false, up_same}
 use Rattle.alike.proofs.Twins.{Twin, twin_answer, twin_step}
 use Rattle.alike.specs.Invariant.{Ordered}
-use Rattle.head_anchor.specs.Ranges.{AnchorFits, SlotFits}
+use Rattle.head_values.specs.Ranges.{AnchorFits, SlotFits}
+use Rattle.head_life.specs.Deliver.{new_head}
+use Rattle.head_driver.specs.Moved.{moved}
 
 -- twins after a delivery that is new to both
-twin_deliver : {d₁ d₂ : Driver} → Twin d₁ d₂ → (here : Bool) (a : ReadAnchor) → AnchorFits a → holds (current_anchor d₁) a ≡ false → holds (installed_anchor d₁) a ≡ here → Twin (delivered_new d₁ here a) (delivered_new d₂ here a)
-twin_deliver {d₁} {d₂} w here a f e o =
-    rw (deliver_new d₁ a here e o, deliver_new d₂ a here (rw (probe_anchors w).0 at e) (rw (probe_anchors w).1 at o)) at (twin_step w (delivering a) (f, zeros_fit, zero_fits))
+twin_deliver : {d₁ d₂ : Driver} → Twin d₁ d₂ → (installed : Bool) (a : ReadAnchor) → AnchorFits a → holds (current_anchor d₁) a ≡ false → holds (installed_anchor d₁) a ≡ installed → Twin (delivered_new d₁ installed a) (delivered_new d₂ installed a)
+twin_deliver {d₁} {d₂} w installed a f e o =
+    rw (deliver_new d₁ a installed e o, deliver_new d₂ a installed (rw (probe_anchors w).0 at e) (rw (probe_anchors w).1 at o)) at (twin_step w (delivering a) (f, zeros_fit, zero_fits))
 
 -- The epoch: a delivery of an anchor that is neither current nor installed, and a claim of it.
 
@@ -45,7 +47,7 @@ claimed_same e f x y q =
     λ j. record { 0 = n j }
 
 pub probe_epoch : {d₁ d₂ : Driver} → Twin d₁ d₂ → d₁.life.claim_epoch.0 < 0xffff_ffff_ffff_ffff → d₂.life.claim_epoch.0 < 0xffff_ffff_ffff_ffff → d₁.life.claim_epoch ≡ d₂.life.claim_epoch
-unfolding new_head delivery anchor_of
+unfolding moved new_head delivery anchor_of
 probe_epoch {d₁} {d₂} w x y =
     let s = current_anchor d₁ in
     let i = installed_anchor d₁ in
@@ -55,7 +57,7 @@ probe_epoch {d₁} {d₂} w x y =
 -- The previous generation: where the head is unsettled, the installed anchor is delivered first, so that no head hides the previous one.
 
 previous_settled : {d₁ d₂ : Driver} → Twin d₁ d₂ → (Unsettled (pose d₁.life.current) → ⊥) → d₁.life.previous ≡ d₂.life.previous
-unfolding dispatch
+unfolding step
 previous_settled {d₁} {d₂} w n = same_generation Source.Previous d₁.life.previous d₂.life.previous (probe_anchors w).2
     (λ g₁ g₂ p q e.
     let v₁ = w.invariant₁.ordered in
@@ -69,7 +71,7 @@ current_elsewhere : (d : Driver) → Ordered d.life → Unsettled (pose d.life.c
 current_elsewhere d v u a e = false_from_ne_true _ (λ t. true_false (same_holds _ _ e) (not_installed d.life v _ refl u a (holds_same _ _ t)))
 
 previous_unsettled : {d₁ d₂ : Driver} → Twin d₁ d₂ → Unsettled (pose d₁.life.current) → (s : Option ReadAnchor) → installed_anchor d₁ ≡ s → d₁.life.previous ≡ d₂.life.previous
-unfolding new_head
+unfolding moved new_head
 previous_unsettled {d₁} {d₂} w u None e = previous_empty _ _ w.invariant₁.ordered.previous_below e ∙ sym (previous_empty _ _ w.invariant₂.ordered.previous_below (sym (probe_anchors w).1 ∙ e))
 previous_unsettled {d₁} {d₂} w u (Some a) e =
     previous_settled (twin_deliver w true a (generation_fits d₁.life.installed a w.invariant₁.fits.life.installed e) (current_elsewhere d₁ w.invariant₁.ordered u a e) (same_holds _ _ e)) (λ b. b)
@@ -87,8 +89,7 @@ settled_telling d v (CurrentHead.Unclaimed u) q k x t = cc
 settled_telling d v (CurrentHead.Preparing u) q k x t = cc
 settled_telling d v (CurrentHead.Settled s) q k x t = (rw (rw q at v.settled_installed) t.0, t.1)
 
-reason_same : (b c : Bool) → HeadReadiness.Cold (spare_reason b) ≡ HeadReadiness.Cold (spare_reason c) → b ≡ c
-unfolding spare_reason
+reason_same : (b c : Bool) → HeadReadiness.Cold (cond b HeadCold.Superseded HeadCold.Undelivered) ≡ HeadReadiness.Cold (cond c HeadCold.Superseded HeadCold.Undelivered) → b ≡ c
 reason_same true true e = refl
 reason_same true false e = cc
 reason_same false true e = cc
@@ -101,7 +102,7 @@ spare_superseded s t x q =
     reason_same (holds s x) (holds t x) (ap (λ v. v.readiness) y)
 
 superseded_one : {d₁ d₂ : Driver} → Twin d₁ d₂ → pose d₁.life.current ≡ Pose.Settled → (x : ReadAnchor) → AnchorFits x → Telling d₁.life.current d₁.life.previous x → holds d₁.life.superseded x ≡ holds d₂.life.superseded x
-unfolding dispatch
+unfolding step
 superseded_one {d₁} {d₂} w k x f t =
     let o = settled_telling d₁ w.invariant₁.ordered d₁.life.current refl k x t in
     let i₂ : holds (installed_anchor d₂) x ≡ false = rw (probe_anchors w).1 at o.0 in
@@ -121,10 +122,10 @@ superseded_settled : {d₁ d₂ : Driver} → Twin d₁ d₂ → pose d₁.life.
 superseded_settled {d₁} {d₂} w k x t = by_range _ _ x w.invariant₁.fits.life.superseded w.invariant₂.fits.life.superseded (λ f. superseded_one w k x f t)
 
 -- twins after a cold apply
-pub twin_cold : {d₁ d₂ : Driver} → Twin d₁ d₂ → (a : ReadAnchor) → AnchorFits a → Twin (dispatch d₁ (cold_call a d₁.life.seq)).driver (dispatch d₂ (cold_call a d₁.life.seq)).driver
+pub twin_cold : {d₁ d₂ : Driver} → Twin d₁ d₂ → (a : ReadAnchor) → AnchorFits a → Twin (step d₁ (cold_call a d₁.life.seq)).driver (step d₂ (cold_call a d₁.life.seq)).driver
 twin_cold {d₁} w a f = twin_step w (cold_call a d₁.life.seq) (cold_writable a d₁.life.seq f w.invariant₁.fits.life.seq)
 
-pub twin_colded : {d₁ d₂ : Driver} → Twin d₁ d₂ → Unsettled (pose d₁.life.current) → (a : ReadAnchor) → current_anchor d₁ ≡ Some a → Colded d₂ a (dispatch d₂ (cold_call a d₁.life.seq)).driver
+pub twin_colded : {d₁ d₂ : Driver} → Twin d₁ d₂ → Unsettled (pose d₁.life.current) → (a : ReadAnchor) → current_anchor d₁ ≡ Some a → Colded d₂ a (step d₂ (cold_call a d₁.life.seq)).driver
 twin_colded {d₁} {d₂} w u a e = rw (probe_seq w) (cold_step d₂ w.invariant₂.ordered (twin_unsettled w u) a (twin_anchor w a e))
 
 -- with nothing previous, an anchor that is not current tells
@@ -139,7 +140,7 @@ superseded_unsettled : {d₁ d₂ : Driver} → Twin d₁ d₂ → Unsettled (po
 superseded_unsettled {d₁} {d₂} w u a e x t =
     let c₁ = cold_step d₁ w.invariant₁.ordered u a e in
     let c₂ = twin_colded w u a e in
-    let o = telling_alone (dispatch d₁ (cold_call a d₁.life.seq)).driver.life.current _ x c₁.empties (ap (λ s. holds s x) (c₁.anchors ∙ sym e) ∙ t.0) in
+    let o = telling_alone (step d₁ (cold_call a d₁.life.seq)).driver.life.current _ x c₁.empties (ap (λ s. holds s x) (c₁.anchors ∙ sym e) ∙ t.0) in
     ap (λ s. holds s x) (sym c₁.keeps) ∙ superseded_settled (twin_cold w a (anchor_fits w a e)) c₁.settles x o ∙ ap (λ s. holds s x) c₂.keeps
 
 absent_nothing : (d : Driver) → Ordered d.life → current_anchor d ≡ None → d.life.superseded ≡ None

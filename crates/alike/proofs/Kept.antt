@@ -3,8 +3,7 @@ use mathlib.Core.List.{List, [], ◌∷◌}
 use mathlib.Core.Path.{refl, ap}
 use lib.Dec.{lit<}
 use Rattle.head_count.specs.Counters.{none_counted}
-use Rattle.head_current.specs.Heads.{delivery}
-use Rattle.head_report.specs.Reports.{current_report}
+use Rattle.head_current.specs.Heads.{delivery, current_report}
 use Rattle.head_life.specs.State.{no_head}
 use Rattle.head_driver.specs.New.{new}
 use Rattle.head_step.specs.Steps.{step}

@@ -1,34 +1,31 @@
 -- Every call keeps the lifecycle's rules, I1 to I6 and I8 to I10.
-use Rattle.std.proofs.lemmas.Bool.{cond_both}
-use Rattle.std.specs.Prelude.{Option, None, Some, ◌&&◌}
+use Rattle.std.proofs.lemmas.Bool.{cond_both, and_parts}
+use Rattle.std.specs.Prelude.{Option, None, Some, not, ◌&&◌}
 use Rattle.head_current.specs.declared.DeltaReport.{DeltaReport}
 use Prim.Native.Nat.{ℕ, ◌+◌}
 use mathlib.Core.Bool.{Bool, true, false}
 use mathlib.Core.Path.{◌≡◌, refl, sym, ap, ◌∙◌, subst}
 use lib.Dec.{eqb}
 use borrow.Author.Tests.{eqb-true}
-use Rattle.head_anchor.specs.Anchors.{holds}
-use Rattle.head_anchor.specs.Links.{classify_link, follows}
-use Rattle.head_anchor.specs.Lists.{apply_prepared, is_linked, is_read, outcome}
+use Rattle.head_values.specs.Anchors.{holds}
+use Rattle.head_values.specs.Links.{classify_link, follows}
+use Rattle.head_values.specs.Lists.{apply_prepared, is_linked, is_decoded, outcome}
 use Rattle.head_attempt.specs.Attempts.{first_end, minted, publish, settled}
-use Rattle.head_count.specs.Counters.{next_epoch, next_seq, raise, seq_of, up}
-use Rattle.head_current.specs.Heads.{delivery}
-use Rattle.head_report.specs.Reports.{current_report}
-use Rattle.head_deliver.specs.Delivered.{unsettled, count_delivery, count_replaced, delivered, delivered_at, new_head}
-use Rattle.head_settle.specs.Settles.{abandonment, settled_head, settling_epoch, settle}
-use Rattle.head_claim.specs.Claimed.{claimed_head, claimed}
-use Rattle.head_release.specs.Released.{released_head, released}
+use Rattle.head_count.specs.Counters.{next_epoch, next_seq, raise, raise_if, seq_of, up}
+use Rattle.head_current.specs.Heads.{delivery, current_report, is_unsettled}
+use Rattle.head_current.specs.Moves.{settled_head, claimed_head}
+use Rattle.head_life.specs.Apply.{record_settle, previous_after, settled_readiness}
 use Rattle.head_current.specs.Parts.{report_of, settled_of}
 use Rattle.head_driver.specs.Parts.{with_life}
-use Rattle.head_ready.specs.Generations.{previous_after, settled_readiness, slot_anchor}
+use Rattle.head_ready.specs.Generations.{slot_anchor}
 use Rattle.head_life.specs.State.{counted, with_stats}
 use Rattle.head_step.specs.Steps.{step}
-use Rattle.head_waits.specs.Calls.{put}
+use Rattle.head_waits.specs.Parts.{put}
 use Rattle.hash.specs.declared.Hash.{Hash}
-use Rattle.head_anchor.specs.declared.BalSkip.{BalSkip}
-use Rattle.head_anchor.specs.declared.CarryOutcome.{CarryOutcome}
-use Rattle.head_anchor.specs.declared.Link.{Link}
-use Rattle.head_anchor.specs.declared.ReadAnchor.{ReadAnchor}
+use Rattle.head_values.specs.declared.BalSkip.{BalSkip}
+use Rattle.head_values.specs.declared.CarryOutcome.{CarryOutcome}
+use Rattle.head_values.specs.declared.Link.{Link}
+use Rattle.head_values.specs.declared.ReadAnchor.{ReadAnchor}
 use Rattle.head_attempt.specs.declared.ClaimAttempt.{ClaimAttempt}
 use Rattle.head_count.specs.declared.Epoch.{Epoch}
 use Rattle.head_attempt.specs.declared.HeadCompletion.{HeadCompletion}
@@ -41,8 +38,13 @@ use Rattle.head_ready.specs.declared.Generation.{Generation}
 use Rattle.head_life.specs.declared.HeadLifecycle.{HeadLifecycle}
 use Rattle.head_call.specs.declared.Call.{Call}
 use Rattle.alike.proofs.Moves.{Move, step_move}
-use Rattle.alike.proofs.Tests.{holds_same, same_holds, true_false, up_positive}
+use Rattle.alike.proofs.Tests.{holds_same, same_holds, true_false, true_from_not_false, up_positive}
 use Rattle.alike.specs.Invariant.{Follows, FromApply, OpenOrAbandoned, Ordered, WhenGeneration}
+use Rattle.head_life.specs.Apply.{settling_epoch}
+use Rattle.head_life.specs.Deliver.{new_head}
+use Rattle.head_driver.specs.Moved.{moved}
+use Rattle.alike.proofs.Nexts.{claimed_at, count_delivery, delivered_at, released_at}
+use Rattle.head_current.specs.Moves.{is_abandoned}
 
 -- a lifecycle with its eight counters changed, delivered excepted
 ordered_stats : (l : HeadLifecycle) (s : HeadStats) → s.delivered ≡ l.stats.delivered → Ordered l → Ordered (with_stats l s)
@@ -67,8 +69,8 @@ ordered_stats l s e v = record {
 -- deliver
 
 -- delivered rises by one whatever else is counted
-count_delivered : (here unsettled : Bool) (s : HeadStats) → (count_delivery here unsettled s).delivered ≡ up s.delivered
-unfolding count_delivery count_replaced raise
+count_delivered : (installed unsettled : Bool) (s : HeadStats) → (count_delivery installed unsettled s).delivered ≡ up s.delivered
+unfolding raise_if raise
 count_delivered true true s = refl
 count_delivered true false s = refl
 count_delivered false true s = refl
@@ -78,11 +80,11 @@ open_abandoned : {X : Type 0} → HeadCompletion.Open ≡ HeadCompletion.Abandon
 open_abandoned e = cc
 
 module _ (l : HeadLifecycle) (v : Ordered l) where
-  next_delivered : (here : Bool) → next_seq l.seq ≡ seq_of (count_delivery here (unsettled l.current) l.stats).delivered
+  next_delivered : (installed : Bool) → next_seq l.seq ≡ seq_of (count_delivery installed (is_unsettled l.current) l.stats).delivered
   unfolding next_seq
-  next_delivered here = rw (count_delivered, v.seq_delivered) refl
+  next_delivered installed = rw (count_delivered, v.seq_delivered) refl
 
-  ordered_delivered : (here : Bool) (a : ReadAnchor) (p : Hash) (cold : ℕ) → holds (slot_anchor l.installed) a ≡ here → Ordered (delivered_at here l a p cold)
+  ordered_delivered : (installed : Bool) (a : ReadAnchor) (p : Hash) (cold : ℕ) → holds (slot_anchor l.installed) a ≡ installed → Ordered (delivered_at installed l a p cold)
   unfolding new_head delivery current_report minted settled
   ordered_delivered true a p cold e = record {
     seq_delivered = next_delivered true;
@@ -121,8 +123,8 @@ module _ (l : HeadLifecycle) (v : Ordered l) where
 
   -- claim and release
 
-  ordered_claimed : (u : UnsettledHead) → l.current ≡ CurrentHead.Unclaimed u → Ordered (claimed l (next_epoch l.claim_epoch))
-  unfolding claimed claimed_head delivery current_report next_epoch
+  ordered_claimed : (u : UnsettledHead) → l.current ≡ CurrentHead.Unclaimed u → Ordered (claimed_at l)
+  unfolding claimed_head delivery current_report next_epoch
   ordered_claimed u q = rw q (record {
     seq_delivered = v.seq_delivered;
     seq_current = rw q at v.seq_current;
@@ -141,11 +143,11 @@ module _ (l : HeadLifecycle) (v : Ordered l) where
     abandoned_epoch = tt;
   })
 
-  ordered_released : (u : UnsettledHead) → l.current ≡ CurrentHead.Preparing u → Ordered (released l)
-  unfolding released released_head delivery current_report publish first_end minted
+  ordered_released : (u : UnsettledHead) → l.current ≡ CurrentHead.Preparing u → Ordered (released_at l u)
+  unfolding delivery current_report publish first_end minted
   ordered_released u q =
       let t : u.attempt ≡ minted l.claim_epoch = rw q at v.preparing_attempt in
-      rw q (record {
+      record {
         seq_delivered = v.seq_delivered;
         seq_current = rw q at v.seq_current;
         preparing_attempt = tt;
@@ -161,14 +163,14 @@ module _ (l : HeadLifecycle) (v : Ordered l) where
         report_installed = tt;
         preparing_epoch = tt;
         abandoned_epoch = λ z. rw q at v.preparing_epoch;
-      })
+      }
 
 -- apply
 
 -- an outcome is carried, or cold with a fault
 outcome_faulty : (link : Link) (skip : BalSkip) (carried : ℕ) → FromApply (settled_readiness (outcome link skip carried))
 unfolding outcome settled_readiness
-outcome_faulty link skip carried = cond_both (is_linked link && is_read skip) _ _ (λ o. FromApply (settled_readiness o)) (λ e. tt) (λ e. e)
+outcome_faulty link skip carried = cond_both (is_linked link && is_decoded skip) _ _ (λ o. FromApply (settled_readiness o)) (λ e. tt) (λ e. e)
 
 -- what becomes previous keeps its readiness
 previous_kept : (i : Option Generation) (o : CarryOutcome) → WhenGeneration i (λ g. FromApply g.readiness) → WhenGeneration (previous_after i o) (λ g. FromApply g.readiness)
@@ -186,9 +188,11 @@ applied_below : (i : Option Generation) (g : Generation) (p : Hash) (skip : BalS
 unfolding apply_prepared outcome classify_link slot_anchor follows
 applied_below None g p skip carried = unfold previous_after is_linked in tt
 applied_below (Some q) g p skip carried =
-    cond_both (eqb (q.anchor.number + 1) g.anchor.number) _ _ (λ k. Follows (Some g) (previous_after (Some q) (outcome k skip carried)))
-    (λ e. carried_below g q _ (eqb-true _ _ e))
+    let t = eqb (q.anchor.number + 1) g.anchor.number in
+    let r = not (eqb q.anchor.number 0xffff_ffff_ffff_ffff) in
+    cond_both (not (t && r)) _ _ (λ k. Follows (Some g) (previous_after (Some q) (outcome k skip carried)))
     (λ e. unfold previous_after is_linked in tt)
+    (λ e. carried_below g q _ (eqb-true _ _ (and_parts t r (true_from_not_false _ e)).0))
 
 pub nothing_held : {X : Type 0} {held : HeadDelivery} → None ≡ Some held → X
 nothing_held p = cc
@@ -197,22 +201,22 @@ pub held_same : {x y : HeadDelivery} → Some x ≡ Some y → x ≡ y
 held_same p = cc
 
 -- An unsettled head that an apply settles: its delivery, the report given, an attempt ended settled.
-abbrev pub Settles : CurrentHead → HeadDelivery → Option DeltaReport → Type 0
-Settles c held r = (t : ClaimAttempt) × (c ≡ CurrentHead.Settled (settled_of held r t)) × (t.end ≡ HeadCompletion.Settled)
+abbrev pub Settles : CurrentHead → HeadDelivery → DeltaReport → Type 0
+Settles c held r = (t : ClaimAttempt) × (c ≡ CurrentHead.Settled (settled_of held (Some r) t)) × (t.end ≡ HeadCompletion.Settled)
 
-unclaimed_settles : (u : UnsettledHead) (e : Epoch) (r : Option DeltaReport) (t : HeadCompletion) → u.attempt.end ≡ t → OpenOrAbandoned t → Settles (settled_head (CurrentHead.Unclaimed u) e r) u.delivery r
-unfolding settled_head abandonment publish first_end settled
+unclaimed_settles : (u : UnsettledHead) (e : Epoch) (r : DeltaReport) (t : HeadCompletion) → u.attempt.end ≡ t → OpenOrAbandoned t → Settles (settled_head (CurrentHead.Unclaimed u) e r) u.delivery r
+unfolding settled_head is_abandoned publish first_end settled
 unclaimed_settles u e r HeadCompletion.Open q o = rw q (_, refl, refl)
 unclaimed_settles u e r HeadCompletion.Settled q o = absurd o
 unclaimed_settles u e r HeadCompletion.Superseded q o = absurd o
 unclaimed_settles u e r HeadCompletion.Abandoned q o = rw q (_, refl, refl)
 
-preparing_settles : (u : UnsettledHead) (e : Epoch) (r : Option DeltaReport) → u.attempt.end ≡ HeadCompletion.Open → Settles (settled_head (CurrentHead.Preparing u) e r) u.delivery r
+preparing_settles : (u : UnsettledHead) (e : Epoch) (r : DeltaReport) → u.attempt.end ≡ HeadCompletion.Open → Settles (settled_head (CurrentHead.Preparing u) e r) u.delivery r
 unfolding settled_head publish first_end
 preparing_settles u e r q = rw q (_, refl, refl)
 
 module _ (l : HeadLifecycle) (v : Ordered l) (held : HeadDelivery) (elsewhere : holds (slot_anchor l.installed) held.anchor ≡ false) where
-  pub head_settles : (c : CurrentHead) → l.current ≡ c → delivery c ≡ Some held → (e : Epoch) (r : Option DeltaReport) → Settles (settled_head c e r) held r
+  pub head_settles : (c : CurrentHead) → l.current ≡ c → delivery c ≡ Some held → (e : Epoch) (r : DeltaReport) → Settles (settled_head c e r) held r
   unfolding delivery minted
   head_settles CurrentHead.Absent q h e r = nothing_held h
   head_settles (CurrentHead.Unclaimed u) q h e r = subst (λ z. Settles (settled_head (CurrentHead.Unclaimed u) e r) z r) (held_same h) (unclaimed_settles u e r u.attempt.end refl (rw q at v.unclaimed_end))
@@ -225,11 +229,11 @@ module _ (l : HeadLifecycle) (v : Ordered l) (held : HeadDelivery) (elsewhere : 
   seq_held c q h = rw (q, h) at v.seq_current
 
   ordered_settled : (p : Hash) (skip : BalSkip) (carried handle report : ℕ) → delivery l.current ≡ Some held
-      → Ordered (settle l held.anchor (apply_prepared (slot_anchor l.installed) held.anchor p skip carried) handle report)
-  unfolding settle delivery current_report
+      → Ordered (record_settle l held.anchor (apply_prepared (slot_anchor l.installed) held.anchor p skip carried) handle report)
+  unfolding record_settle delivery current_report
   ordered_settled p skip carried handle report h =
       let o = apply_prepared (slot_anchor l.installed) held.anchor p skip carried in
-      let s = head_settles l.current refl h (settling_epoch l.current l.claim_epoch) (Some (report_of o report)) in
+      let s = head_settles l.current refl h (settling_epoch l) (report_of o report) in
       let f : FromApply (settled_readiness o) = unfold apply_prepared in outcome_faulty (classify_link (slot_anchor l.installed) held.anchor p) skip carried in
       rw s.1 (record {
         seq_delivered = unfold raise in v.seq_delivered;
@@ -252,7 +256,7 @@ module _ (l : HeadLifecycle) (v : Ordered l) (held : HeadDelivery) (elsewhere : 
 -- every call
 
 ordered_move : {d e : Driver} {c : Call} → Move d c e → Ordered d.life → Ordered e.life
-unfolding with_life counted put delivered
+unfolding with_life counted put moved
 ordered_move Move.none v = v
 ordered_move {d} (Move.counts k e) v = ordered_stats d.life _ e v
 ordered_move (Move.frees n m) v = ordered_move m v

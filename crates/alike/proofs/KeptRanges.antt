@@ -8,26 +8,25 @@ use mathlib.Core.Bool.{Bool}
 use mathlib.Core.Path.{◌≡◌, ◌∙◌}
 use lib.Dec.{lit<}
 use lib.ListN.{length-set}
-use Rattle.head_anchor.specs.Anchors.{holds}
-use Rattle.head_anchor.specs.Links.{classify_link}
-use Rattle.head_anchor.specs.Lists.{apply_prepared, is_linked, is_read, outcome}
+use Rattle.head_values.specs.Anchors.{holds}
+use Rattle.head_values.specs.Links.{classify_link}
+use Rattle.head_values.specs.Lists.{apply_prepared, is_linked, is_decoded, outcome}
 use Rattle.head_attempt.specs.Attempts.{minted, publish, settled}
-use Rattle.head_count.specs.Counters.{next_epoch, next_seq, raise}
+use Rattle.head_count.specs.Counters.{next_epoch, next_seq, raise, raise_if}
 use Rattle.head_attempt.specs.Waiters.{slot_of}
-use Rattle.head_current.specs.Heads.{delivery}
-use Rattle.head_deliver.specs.Delivered.{unsettled, count_delivery, count_replaced, delivered, new_head, replaced}
-use Rattle.head_settle.specs.Settles.{abandonment, settled_head, settling_epoch, settle}
-use Rattle.head_claim.specs.Claimed.{claimed_head, claimed}
-use Rattle.head_release.specs.Released.{released_head, released}
-use Rattle.head_driver.specs.Parts.{ending_with, with_life}
-use Rattle.head_ready.specs.Generations.{previous_after, settled_readiness, slot_anchor}
+use Rattle.head_current.specs.Heads.{delivery, is_unsettled}
+use Rattle.head_current.specs.Moves.{settled_head, claimed_head}
+use Rattle.head_life.specs.Apply.{record_settle, previous_after, settled_readiness}
+use Rattle.head_driver.specs.Moved.{moved}
+use Rattle.head_driver.specs.Parts.{with_life}
+use Rattle.head_ready.specs.Generations.{slot_anchor}
 use Rattle.head_life.specs.State.{counted}
 use Rattle.head_step.specs.Steps.{step}
-use Rattle.head_waits.specs.Calls.{put}
+use Rattle.head_waits.specs.Parts.{put}
 use Rattle.hash.specs.declared.Hash.{Hash}
-use Rattle.head_anchor.specs.declared.BalSkip.{BalSkip}
-use Rattle.head_anchor.specs.declared.CarryOutcome.{CarryOutcome}
-use Rattle.head_anchor.specs.declared.ReadAnchor.{ReadAnchor}
+use Rattle.head_values.specs.declared.BalSkip.{BalSkip}
+use Rattle.head_values.specs.declared.CarryOutcome.{CarryOutcome}
+use Rattle.head_values.specs.declared.ReadAnchor.{ReadAnchor}
 use Rattle.head_count.specs.declared.Counter.{Counter}
 use Rattle.head_count.specs.declared.Epoch.{Epoch}
 use Rattle.head_attempt.specs.declared.HeadCompletion.{HeadCompletion}
@@ -41,15 +40,22 @@ use Rattle.head_call.specs.declared.Call.{Call}
 use Rattle.alike.proofs.KeptOrder.{held_same, nothing_held}
 use Rattle.alike.proofs.Moves.{Move, step_move}
 use Rattle.alike.proofs.Tests.{up_fits}
-use Rattle.alike.proofs.Waking.{ending_fits, ending_length, set_fits}
-use Rattle.head_anchor.specs.Ranges.{AnchorFits, OutcomeFits, SkipFits, SlotFits}
-use Rattle.head_current.specs.Ranges.{DeliveryFits, HeadFits, ReportFits}
+use Rattle.alike.proofs.Waking.{set_fits, woken_fit, woken_length}
+use Rattle.head_values.specs.Ranges.{AnchorFits, OutcomeFits, SkipFits, SlotFits}
+use Rattle.head_current.specs.Ranges.{DeliveryFits, HeadFits, ReportFits, UnsettledFits}
 use Rattle.alike.specs.Ranges.{DriverFits, LifeFits, WaiterFits}
 use Rattle.hash.specs.Ranges.{Fits, HashFits}
 use Rattle.head_ready.specs.Ranges.{GenerationSlotFits, ReadinessFits}
 use Rattle.head_count.specs.Ranges.{StatsFit}
 use Rattle.head_call.specs.Ranges.{Writable}
 use Rattle.head_current.specs.Parts.{report_of}
+use Rattle.head_life.specs.Apply.{settling_epoch}
+use Rattle.head_life.specs.Deliver.{new_head}
+use Rattle.head_current.specs.Moves.{is_abandoned, published_abandonment}
+use Rattle.head_attempt.specs.declared.ClaimAttempt.{ClaimAttempt}
+use Rattle.head_current.specs.declared.UnsettledHead.{UnsettledHead}
+use Rattle.alike.proofs.Nexts.{abandoned_head, claimed_at, count_delivery, delivered_at, released_at, replaced}
+use Rattle.head_current.specs.Heads.{anchor_of}
 
 -- counters
 
@@ -64,21 +70,21 @@ raise_fits Counter.Discarded s f = (f.0, f.1, f.2, f.3, f.4, up_fits _ f.5, f.6,
 raise_fits Counter.ReadyViews s f = (f.0, f.1, f.2, f.3, f.4, f.5, up_fits _ f.6, f.7)
 raise_fits Counter.ColdViews s f = (f.0, f.1, f.2, f.3, f.4, f.5, f.6, up_fits _ f.7)
 
-count_fits : (here unsettled : Bool) (s : HeadStats) → StatsFit s → StatsFit (count_delivery here unsettled s)
-unfolding count_delivery count_replaced
-count_fits here unsettled s f =
-    let g = raise_fits Counter.Delivered (count_replaced unsettled s) (cond_both unsettled (raise Counter.Superseded s) s StatsFit (λ e. raise_fits Counter.Superseded s f) (λ e. f)) in
-    let h = raise Counter.Delivered (count_replaced unsettled s) in
-    cond_both here (raise Counter.AlreadyCurrent h) h StatsFit (λ e. raise_fits Counter.AlreadyCurrent h g) (λ e. g)
+raise_if_fits : (t : Bool) (k : Counter) (s : HeadStats) → StatsFit s → StatsFit (raise_if t k s)
+unfolding raise_if
+raise_if_fits t k s f = cond_both t _ _ StatsFit (λ e. raise_fits k s f) (λ e. f)
+
+count_fits : (installed unsettled : Bool) (s : HeadStats) → StatsFit s → StatsFit (count_delivery installed unsettled s)
+count_fits installed unsettled s f = raise_if_fits installed Counter.AlreadyCurrent _ (raise_fits Counter.Delivered _ (raise_if_fits unsettled Counter.Superseded s f))
 
 -- deliver
 
-new_head_fits : (here : Bool) (held : HeadDelivery) (cold : ℕ) → DeliveryFits held → Fits cold → HeadFits (new_head here held cold)
+new_head_fits : (installed : Bool) (held : HeadDelivery) (cold : ℕ) → DeliveryFits held → Fits cold → HeadFits (new_head installed held cold)
 unfolding new_head minted settled
-new_head_fits here held cold f g = cond_both here _ _ HeadFits (λ e. record { delivery = f; report = tt; epoch = lit< tt }) (λ e. record { delivery = f; provisional = g; epoch = lit< tt })
+new_head_fits installed held cold f g = cond_both installed _ _ HeadFits (λ e. record { delivery = f; report = tt; epoch = lit< tt }) (λ e. record { delivery = f; provisional = g; epoch = lit< tt })
 
-replaced_fits : (c : CurrentHead) (s : Option ReadAnchor) → HeadFits c → SlotFits s → SlotFits (replaced (delivery c) s)
-unfolding replaced delivery
+replaced_fits : (c : CurrentHead) (s : Option ReadAnchor) → HeadFits c → SlotFits s → SlotFits (replaced (anchor_of (delivery c)) s)
+unfolding anchor_of delivery
 replaced_fits CurrentHead.Absent s f g = g
 replaced_fits (CurrentHead.Unclaimed u) s f g = f.delivery.anchor
 replaced_fits (CurrentHead.Preparing u) s f g = f.delivery.anchor
@@ -93,17 +99,14 @@ claimed_fits (CurrentHead.Unclaimed u) e f g = record { delivery = f.delivery; p
 claimed_fits (CurrentHead.Preparing u) e f g = f
 claimed_fits (CurrentHead.Settled s) e f g = f
 
-released_fits : (c : CurrentHead) → HeadFits c → HeadFits (released_head c)
-unfolding released_head publish
-released_fits CurrentHead.Absent f = f
-released_fits (CurrentHead.Unclaimed u) f = f
-released_fits (CurrentHead.Preparing u) f = record { delivery = f.delivery; provisional = f.provisional; epoch = f.epoch }
-released_fits (CurrentHead.Settled s) f = f
+released_fits : (u : UnsettledHead) → UnsettledFits u → HeadFits (abandoned_head u)
+unfolding publish
+released_fits u f = record { delivery = f.delivery; provisional = f.provisional; epoch = f.epoch }
 
-settled_fits : (c : CurrentHead) (e : Epoch) (r : Option DeltaReport) → HeadFits c → Fits e.0 → ReportFits r → HeadFits (settled_head c e r)
+settled_fits : (c : CurrentHead) (e : Epoch) (r : DeltaReport) → HeadFits c → Fits e.0 → ReportFits (Some r) → HeadFits (settled_head c e r)
 unfolding settled_head publish settled
 settled_fits CurrentHead.Absent e r f g h = f
-settled_fits (CurrentHead.Unclaimed u) e r f g h = cond_both (abandonment u) _ _ HeadFits (λ z. record { delivery = f.delivery; report = h; epoch = g }) (λ z. record { delivery = f.delivery; report = h; epoch = f.epoch })
+settled_fits (CurrentHead.Unclaimed u) e r f g h = record { delivery = f.delivery; report = h; epoch = cond_both (is_abandoned u.attempt.end) _ _ (λ (t : ClaimAttempt). Fits t.epoch.0) (λ z. g) (λ z. f.epoch) }
 settled_fits (CurrentHead.Preparing u) e r f g h = record { delivery = f.delivery; report = h; epoch = f.epoch }
 settled_fits (CurrentHead.Settled s) e r f g h = record { delivery = f.delivery; report = h; epoch = f.epoch }
 
@@ -111,16 +114,13 @@ next_epoch_fits : (e : Epoch) → Fits e.0 → Fits (next_epoch e).0
 unfolding next_epoch
 next_epoch_fits e f = up_fits e.0 f
 
-settling_fits : (c : CurrentHead) (e : Epoch) → Fits e.0 → Fits (settling_epoch c e).0
+settling_fits : (l : HeadLifecycle) → Fits l.claim_epoch.0 → Fits (settling_epoch l).0
 unfolding settling_epoch
-settling_fits CurrentHead.Absent e f = f
-settling_fits (CurrentHead.Unclaimed u) e f = cond_both (abandonment u) _ _ (λ (x : Epoch). Fits x.0) (λ z. next_epoch_fits e f) (λ z. f)
-settling_fits (CurrentHead.Preparing u) e f = f
-settling_fits (CurrentHead.Settled s) e f = f
+settling_fits l f = cond_both (published_abandonment l.current) _ _ (λ (x : Epoch). Fits x.0) (λ z. next_epoch_fits l.claim_epoch f) (λ z. f)
 
 pub outcome_fits : (i : Option ReadAnchor) (a : ReadAnchor) (p : Hash) (skip : BalSkip) (carried : ℕ) → SkipFits skip → Fits carried → OutcomeFits (apply_prepared i a p skip carried)
 unfolding apply_prepared outcome
-outcome_fits i a p skip carried f g = cond_both (is_linked (classify_link i a p) && is_read skip) _ _ OutcomeFits (λ e. g) (λ e. f)
+outcome_fits i a p skip carried f g = cond_both (is_linked (classify_link i a p) && is_decoded skip) _ _ OutcomeFits (λ e. g) (λ e. f)
 
 readiness_fits : (o : CarryOutcome) → OutcomeFits o → ReadinessFits (settled_readiness o)
 unfolding settled_readiness
@@ -146,8 +146,8 @@ module _ (l : HeadLifecycle) (f : LifeFits l) where
   unfolding counted
   counted_fits k = record { current = f.current; superseded = f.superseded; installed = f.installed; previous = f.previous; seq = f.seq; epoch = f.epoch; stats = raise_fits k l.stats f.stats }
 
-  delivered_fits : (a : ReadAnchor) (p : Hash) (cold : ℕ) → AnchorFits a → HashFits p → Fits cold → LifeFits (delivered l a p cold)
-  unfolding delivered next_seq
+  delivered_fits : (a : ReadAnchor) (p : Hash) (cold : ℕ) → AnchorFits a → HashFits p → Fits cold → LifeFits (delivered_at (holds (slot_anchor l.installed) a) l a p cold)
+  unfolding next_seq
   delivered_fits a p cold x y z =
       let n = up_fits l.seq.0 f.seq in
       record {
@@ -157,25 +157,23 @@ module _ (l : HeadLifecycle) (f : LifeFits l) where
         previous = f.previous;
         seq = n;
         epoch = f.epoch;
-        stats = count_fits (holds (slot_anchor l.installed) a) (unsettled l.current) l.stats f.stats;
+        stats = count_fits (holds (slot_anchor l.installed) a) (is_unsettled l.current) l.stats f.stats;
       }
 
-  claimed_life_fits : LifeFits (claimed l (next_epoch l.claim_epoch))
-  unfolding claimed
+  claimed_life_fits : LifeFits (claimed_at l)
   claimed_life_fits =
       let e = next_epoch_fits l.claim_epoch f.epoch in
       record { current = claimed_fits l.current _ f.current e; superseded = f.superseded; installed = f.installed; previous = f.previous; seq = f.seq; epoch = e; stats = f.stats }
 
-  released_life_fits : LifeFits (released l)
-  unfolding released
-  released_life_fits = record { current = released_fits l.current f.current; superseded = f.superseded; installed = f.installed; previous = f.previous; seq = f.seq; epoch = f.epoch; stats = f.stats }
+  released_life_fits : (u : UnsettledHead) → UnsettledFits u → LifeFits (released_at l u)
+  released_life_fits u g = record { current = released_fits u g; superseded = f.superseded; installed = f.installed; previous = f.previous; seq = f.seq; epoch = f.epoch; stats = f.stats }
 
-  settled_life_fits : (a : ReadAnchor) (o : CarryOutcome) (handle report : ℕ) → AnchorFits a → OutcomeFits o → Fits handle → Fits report → LifeFits (settle l a o handle report)
-  unfolding settle
+  settled_life_fits : (a : ReadAnchor) (o : CarryOutcome) (handle report : ℕ) → AnchorFits a → OutcomeFits o → Fits handle → Fits report → LifeFits (record_settle l a o handle report)
+  unfolding record_settle
   settled_life_fits a o handle report x y h r =
-      let e = settling_fits l.current l.claim_epoch f.epoch in
+      let e = settling_fits l f.epoch in
       record {
-        current = settled_fits l.current _ (Some (report_of o report)) f.current e (y, r);
+        current = settled_fits l.current _ (report_of o report) f.current e (y, r);
         superseded = f.superseded;
         installed = record { anchor = x; handle = h; readiness = readiness_fits o y };
         previous = previous_fits l.installed o f.installed;
@@ -186,8 +184,9 @@ module _ (l : HeadLifecycle) (f : LifeFits l) where
 
 -- every call
 
-ending_with_fits : (d : Driver) (l : HeadLifecycle) (t : HeadCompletion) → DriverFits d → LifeFits l → DriverFits (ending_with d l t)
-ending_with_fits d l t f g = record { life = g; waiters = ending_fits t d.life.current d.waiters f.life.current f.waiters; sixteen = ending_length t d.life.current d.waiters ∙ f.sixteen }
+moved_fits : (d : Driver) (l : HeadLifecycle) (t : HeadCompletion) → DriverFits d → LifeFits l → DriverFits (moved d l t)
+unfolding moved
+moved_fits d l t f g = record { life = g; waiters = woken_fit t d.life.current l.current d.waiters f.life.current f.waiters; sixteen = woken_length t d.life.current l.current d.waiters ∙ f.sixteen }
 
 with_life_fits : (d : Driver) (l : HeadLifecycle) → DriverFits d → LifeFits l → DriverFits (with_life d l)
 unfolding with_life
@@ -202,10 +201,10 @@ fits_move Move.none r f = f
 fits_move {d} (Move.counts k e) r f = with_life_fits d _ f (counted_fits d.life f.life k)
 fits_move (Move.frees n m) r f = put_fits _ n Waiter.Free tt (fits_move m r f)
 fits_move {d} (Move.parks n a e) r f = put_fits d n Waiter.Parked tt f
-fits_move {d} (Move.delivers a p cold) r f = ending_with_fits d _ _ f (delivered_fits d.life f.life a p cold r.0 r.1 r.2)
+fits_move {d} (Move.delivers a p cold) r f = moved_fits d _ _ f (delivered_fits d.life f.life a p cold r.0 r.1 r.2)
 fits_move {d} (Move.claims u q) r f = with_life_fits d _ f (claimed_life_fits d.life f.life)
-fits_move {d} (Move.releases u q) r f = ending_with_fits d _ _ f (released_life_fits d.life f.life)
-fits_move {d} (Move.settles ticket list handle carried report held q e) r f = ending_with_fits d _ _ f
+fits_move {d} (Move.releases u q) r f = moved_fits d _ _ f (released_life_fits d.life f.life u (rw q at f.life.current))
+fits_move {d} (Move.settles ticket list handle carried report held q e) r f = moved_fits d _ _ f
     (settled_life_fits d.life f.life held.anchor _ handle report (held_fits d.life.current held q f.life.current).anchor (outcome_fits _ _ _ list.skip carried r.3 r.5) r.4 r.6)
 
 pub fits_step : (d : Driver) (c : Call) → Writable c → DriverFits d → DriverFits (step d c).driver

@@ -4,11 +4,11 @@ use Rattle.std.proofs.lemmas.Bool.{cond_both, false_from_ne_true}
 use Rattle.std.specs.Prelude.{Option, None, Some}
 use mathlib.Core.Bool.{Bool, false}
 use mathlib.Core.Path.{◌≡◌, refl, sym, ap, ◌∙◌}
-use Rattle.head_anchor.specs.Anchors.{holds, same_anchor}
-use Rattle.head_anchor.specs.declared.ReadAnchor.{ReadAnchor}
+use Rattle.head_values.specs.Anchors.{holds, same_anchor}
+use Rattle.head_values.specs.declared.ReadAnchor.{ReadAnchor}
 use Rattle.alike.proofs.Tests.{by_test, holds_same, nothing_at, same_anchor_lem, same_holds, true_false}
 use Rattle.alike.specs.Canon.{mask_by}
-use Rattle.head_anchor.specs.Ranges.{SlotFits}
+use Rattle.head_values.specs.Ranges.{SlotFits}
 
 -- a second time it hides nothing more
 pub mask_twice : (h : ReadAnchor → Bool) (s : Option ReadAnchor) → mask_by h (mask_by h s) ≡ mask_by h s

@@ -7,17 +7,15 @@ use Prim.Native.Nat.{ℕ}
 use mathlib.Core.Bool.{false}
 use mathlib.Core.Path.{◌≡◌, refl, sym, ap, ◌∙◌, subst}
 use native.Mathlib.Omega.{arith}
-use Rattle.head_anchor.specs.Anchors.{holds}
+use Rattle.head_values.specs.Anchors.{holds}
 use Rattle.head_attempt.specs.Attempts.{minted}
 use Rattle.head_count.specs.Counters.{epoch_of, next_epoch, seq_of}
-use Rattle.head_current.specs.Heads.{anchor_of, delivery}
-use Rattle.head_report.specs.Reports.{current_report}
-use Rattle.head_completion.specs.Ends.{published}
-use Rattle.head_deliver.specs.Delivered.{delivery_of}
+use Rattle.head_current.specs.Heads.{anchor_of, delivery, current_report, published}
+use Rattle.head_current.specs.Parts.{delivery_of}
 use Rattle.head_ready.specs.Generations.{slot_anchor}
 use Rattle.head_ready.specs.Refusals.{refused_13, refused_14}
 use Rattle.hash.specs.declared.Hash.{Hash}
-use Rattle.head_anchor.specs.declared.ReadAnchor.{ReadAnchor}
+use Rattle.head_values.specs.declared.ReadAnchor.{ReadAnchor}
 use Rattle.head_attempt.specs.declared.ClaimAttempt.{ClaimAttempt}
 use Rattle.head_count.specs.declared.Epoch.{Epoch}
 use Rattle.head_current.specs.declared.CurrentHead.{CurrentHead}
@@ -31,7 +29,7 @@ use Rattle.alike.proofs.Alike.{SameHead, unsettled_at}
 use Rattle.alike.proofs.KeptRanges.{held_fits}
 use Rattle.alike.proofs.Tests.{nothing_at, same_anchor_lem}
 use Rattle.alike.specs.Invariant.{Follows, Ordered}
-use Rattle.head_anchor.specs.Ranges.{AnchorFits}
+use Rattle.head_values.specs.Ranges.{AnchorFits}
 use Rattle.head_ready.specs.Ranges.{GenerationSlotFits}
 use Rattle.head_current.specs.Ranges.{HeadFits}
 
@@ -77,11 +75,11 @@ provisional_of (CurrentHead.Preparing u) = u.provisional
 provisional_of (CurrentHead.Settled s) = 0
 
 -- what a claim under the current ticket answers
-abbrev pub claim_answer : CurrentHead → Epoch → Answer
-claim_answer CurrentHead.Absent e = Answer.Done
-claim_answer (CurrentHead.Unclaimed u) e = Answer.Claimed (next_epoch e)
-claim_answer (CurrentHead.Preparing u) e = Answer.Outcome refused_14
-claim_answer (CurrentHead.Settled s) e = Answer.Outcome refused_13
+abbrev pub claim_tells : CurrentHead → Epoch → Answer
+claim_tells CurrentHead.Absent e = Answer.Done
+claim_tells (CurrentHead.Unclaimed u) e = Answer.Claimed (next_epoch e)
+claim_tells (CurrentHead.Preparing u) e = Answer.Outcome refused_14
+claim_tells (CurrentHead.Settled s) e = Answer.Outcome refused_13
 
 -- A head is made of these parts, and of its delivery and attempt.
 

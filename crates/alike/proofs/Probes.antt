@@ -7,17 +7,13 @@ use lib.Dec.{lit<}
 use Rattle.hash.specs.Hashes.{same_hash}
 use Rattle.head_attempt.specs.Attempts.{minted}
 use Rattle.head_count.specs.Counters.{next_seq, seq_of, up}
-use Rattle.head_current.specs.Heads.{delivery}
-use Rattle.head_report.specs.Reports.{current_report}
-use Rattle.head_completion.specs.Ends.{published}
+use Rattle.head_current.specs.Heads.{delivery, current_report, published}
 use Rattle.head_ready.specs.Generations.{slot_anchor}
-use Rattle.head_report.specs.Report.{report}
-use Rattle.head_stats.specs.Stats.{stats}
-use Rattle.head_heads.specs.Heads.{heads}
-use Rattle.head_step.specs.Dispatch.{dispatch}
-use Rattle.head_view.specs.Views.{view_of}
+use Rattle.head_asks.specs.Asks.{report, stats, heads}
+use Rattle.head_step.specs.Steps.{step}
+use Rattle.head_life.specs.Views.{view_of}
 use Rattle.hash.specs.declared.Hash.{Hash}
-use Rattle.head_anchor.specs.declared.ReadAnchor.{ReadAnchor}
+use Rattle.head_values.specs.declared.ReadAnchor.{ReadAnchor}
 use Rattle.head_count.specs.declared.Epoch.{Epoch}
 use Rattle.head_count.specs.declared.Seq.{Seq}
 use Rattle.head_current.specs.declared.CurrentHead.{CurrentHead}
@@ -30,18 +26,18 @@ use Rattle.head_ready.specs.declared.Source.{Source}
 use Rattle.head_call.specs.declared.Call.{Call}
 use Rattle.alike.proofs.Alike.{SameHead}
 use Rattle.alike.proofs.KeptRanges.{held_fits}
-use Rattle.alike.proofs.Poses.{Unsettled, absent_of, by_pose, claim_answer, current_anchor, head_fits, held_at, held_of, installed_anchor, no_provisional, parent_of, pose, preparing_minted, previous_anchor, provisional_of, published_end, same_parts}
+use Rattle.alike.proofs.Poses.{Unsettled, absent_of, by_pose, claim_tells, current_anchor, head_fits, held_at, held_of, installed_anchor, no_provisional, parent_of, pose, preparing_minted, previous_anchor, provisional_of, published_end, same_parts}
 use Rattle.alike.proofs.Replies.{claim_answers, completion_answers, deliver_answers, snapshot_current, snapshot_installed}
 use Rattle.alike.proofs.Tests.{by_test, hash_same, nothing_at, same_hash_lem, up_other}
 use Rattle.alike.proofs.Twins.{Twin, twin_answer}
 use Rattle.alike.specs.Invariant.{Ordered}
-use Rattle.head_anchor.specs.Ranges.{AnchorFits}
+use Rattle.head_values.specs.Ranges.{AnchorFits}
 use Rattle.hash.specs.Ranges.{Fits}
 
 pub zero_fits : Fits 0
 zero_fits = lit< tt
 
-claim_pose : (c₁ c₂ : CurrentHead) (e₁ e₂ : Epoch) → claim_answer c₁ e₁ ≡ claim_answer c₂ e₂ → pose c₁ ≡ pose c₂
+claim_pose : (c₁ c₂ : CurrentHead) (e₁ e₂ : Epoch) → claim_tells c₁ e₁ ≡ claim_tells c₂ e₂ → pose c₁ ≡ pose c₂
 claim_pose CurrentHead.Absent CurrentHead.Absent e₁ e₂ q = refl
 claim_pose CurrentHead.Absent (CurrentHead.Unclaimed y) e₁ e₂ q = cc
 claim_pose CurrentHead.Absent (CurrentHead.Preparing y) e₁ e₂ q = cc
@@ -97,24 +93,24 @@ module _ {d₁ d₂ : Driver} (w : Twin d₁ d₂) where
   v₂ = w.invariant₂.ordered
 
   pub probe_counters : d₁.life.stats ≡ d₂.life.stats
-  unfolding dispatch stats
+  unfolding step stats
   probe_counters = let e : Answer.Stats d₁.life.stats ≡ Answer.Stats d₂.life.stats = twin_answer w Call.Stats tt in cc
 
   pub probe_seq : d₁.life.seq ≡ d₂.life.seq
   probe_seq = v₁.seq_delivered ∙ ap (λ t. seq_of t.delivered) probe_counters ∙ sym v₂.seq_delivered
 
   pub probe_anchors : (current_anchor d₁ ≡ current_anchor d₂) × (installed_anchor d₁ ≡ installed_anchor d₂) × (previous_anchor d₁ ≡ previous_anchor d₂)
-  unfolding dispatch heads
+  unfolding step heads
   probe_anchors =
       let e : Answer.Heads (current_anchor d₁) (installed_anchor d₁) (previous_anchor d₁) ≡ Answer.Heads (current_anchor d₂) (installed_anchor d₂) (previous_anchor d₂) = twin_answer w Call.Heads tt in
       (cc, cc, cc)
 
   pub probe_report : current_report c₁ ≡ current_report c₂
-  unfolding dispatch report
+  unfolding step report
   probe_report = let e : Answer.Report (current_report c₁) ≡ Answer.Report (current_report c₂) = twin_answer w Call.Report tt in cc
 
   pub probe_installed : d₁.life.installed ≡ d₂.life.installed
-  unfolding dispatch
+  unfolding step
   probe_installed = same_generation Source.Installed d₁.life.installed d₂.life.installed probe_anchors.1
       (λ g₁ g₂ p q e. sym (snapshot_installed d₁ v₁ g₁ g₁.anchor 0 p refl)
       ∙ twin_answer w (Call.Snapshot g₁.anchor 0) ((rw p at w.invariant₁.fits.life.installed).anchor, zero_fits)
@@ -128,8 +124,8 @@ module _ {d₁ d₂ : Driver} (w : Twin d₁ d₂) where
     pub anchor_fits : AnchorFits a
     anchor_fits = head_fits c₁ a w.invariant₁.fits.life.current e
 
-    pub probe_claim : claim_answer c₁ d₁.life.claim_epoch ≡ claim_answer c₂ d₂.life.claim_epoch
-    unfolding dispatch
+    pub probe_claim : claim_tells c₁ d₁.life.claim_epoch ≡ claim_tells c₂ d₂.life.claim_epoch
+    unfolding step
     probe_claim = sym (claim_answers d₁ v₁ _ refl a e)
         ∙ twin_answer w (Call.Claim (record { anchor = a; seq = d₁.life.seq })) (anchor_fits, w.invariant₁.fits.life.seq)
         ∙ rw probe_seq (claim_answers d₂ v₂ _ refl a twin_anchor)
@@ -149,12 +145,12 @@ module _ {d₁ d₂ : Driver} (w : Twin d₁ d₂) where
   twin_unsettled u = rw probe_pose at u
 
   pub probe_end : published c₁ ≡ published c₂
-  unfolding dispatch
+  unfolding step
   probe_end = part published (λ a e.
       let q = sym (completion_answers d₁ v₁ a e) ∙ twin_answer w (Call.Completion a) (anchor_fits a e) ∙ completion_answers d₂ v₂ a (twin_anchor a e) in cc)
 
   pub probe_provisional : provisional_of c₁ ≡ provisional_of c₂
-  unfolding dispatch
+  unfolding step
   probe_provisional = part provisional_of (λ a e. by_pose (pose c₁)
       (λ u.
       let q = sym (snapshot_current d₁ v₁ a 0 u e) ∙ twin_answer w (Call.Snapshot a 0) (anchor_fits a e, zero_fits) ∙ snapshot_current d₂ v₂ a 0 (twin_unsettled u) (twin_anchor a e) in
@@ -163,7 +159,7 @@ module _ {d₁ d₂ : Driver} (w : Twin d₁ d₂) where
       (λ n. no_provisional c₁ n ∙ sym (no_provisional c₂ (rw probe_pose at n))))
 
   pub probe_parent_hash : d₁.life.stats.delivered < 0xffff_ffff_ffff_ffff → parent_of (delivery c₁) ≡ parent_of (delivery c₂)
-  unfolding dispatch next_seq
+  unfolding step next_seq
   probe_parent_hash b = part (λ c. parent_of (delivery c)) (λ a e.
       let h₁ = held_at (delivery c₁) a e in
       let h₂ = held_at (delivery c₂) a (twin_anchor a e) in

@@ -5,20 +5,19 @@ use Prim.Native.Nat.{ℕ}
 use mathlib.Core.Bool.{true, false}
 use mathlib.Core.Path.{◌≡◌, refl, ap, ◌∙◌}
 use Rattle.hash.specs.Hashes.{same_hash}
-use Rattle.head_anchor.specs.Anchors.{holds}
+use Rattle.head_values.specs.Anchors.{holds}
 use Rattle.head_count.specs.Counters.{next_seq, same_seq}
-use Rattle.head_current.specs.Heads.{anchor_of, delivery, ticket_of}
-use Rattle.head_completion.specs.Ends.{published, end_at}
-use Rattle.head_deliver.specs.Repeats.{repeat_of, repeats, same_delivery}
-use Rattle.head_claim.specs.Claim.{claim, claim_as}
-use Rattle.head_deliver.specs.Deliver.{deliver, deliver_as}
-use Rattle.head_snapshot.specs.Snapshot.{snapshot, viewed}
-use Rattle.head_claim.specs.Starts.{claim_gate, claim_start}
+use Rattle.head_current.specs.Heads.{anchor_of, delivery, has_ticket, published, is_settled, is_preparing}
+use Rattle.head_life.specs.Completion.{completion_at}
+use Rattle.head_life.specs.Deliver.{repeats, deliver_life, old_seq}
+use Rattle.head_calls.specs.Claim.{claim, claim_answer}
+use Rattle.head_calls.specs.Deliver.{deliver}
+use Rattle.head_waits.specs.Snapshot.{snapshot, viewed}
 use Rattle.head_ready.specs.Generations.{slot_anchor}
-use Rattle.head_completion.specs.Completion.{completion}
-use Rattle.head_view.specs.Views.{current_view, generation_view, provisional_view, spare_view, view, view_of}
+use Rattle.head_asks.specs.Asks.{completion}
+use Rattle.head_life.specs.Views.{current_view, generation_view, provisional_view, spare_view, view, view_of}
 use Rattle.hash.specs.declared.Hash.{Hash}
-use Rattle.head_anchor.specs.declared.ReadAnchor.{ReadAnchor}
+use Rattle.head_values.specs.declared.ReadAnchor.{ReadAnchor}
 use Rattle.head_count.specs.declared.Seq.{Seq}
 use Rattle.head_current.specs.declared.CurrentHead.{CurrentHead}
 use Rattle.head_current.specs.declared.HeadDelivery.{HeadDelivery}
@@ -31,12 +30,14 @@ use Rattle.head_ready.specs.declared.HeadReadiness.{HeadReadiness}
 use Rattle.head_ready.specs.declared.HeadView.{HeadView}
 use Rattle.head_ready.specs.declared.Source.{Source}
 use Rattle.alike.proofs.Alike.{unsettled_at}
-use Rattle.alike.proofs.Poses.{Unsettled, claim_answer, current_anchor, installed_anchor, not_installed, pose, previous_anchor, provisional_of}
+use Rattle.alike.proofs.Poses.{Unsettled, claim_tells, current_anchor, installed_anchor, not_installed, pose, previous_anchor, provisional_of}
 use Rattle.alike.proofs.Tests.{anchor_same, by_test, eqb_same, nothing_at, same_holds}
 use Rattle.alike.specs.Invariant.{Ordered}
+use Rattle.head_life.specs.Claim.{claim_life, claim_held}
+use Rattle.head_driver.specs.Parts.{with_life}
 
-pub ticket_ok : (held : HeadDelivery) (a : ReadAnchor) (n : Seq) → held.anchor ≡ a → held.seq ≡ n → ticket_of held (record { anchor = a; seq = n }) ≡ true
-unfolding ticket_of same_seq
+pub ticket_ok : (held : HeadDelivery) (a : ReadAnchor) (n : Seq) → held.anchor ≡ a → held.seq ≡ n → has_ticket held (record { anchor = a; seq = n }) ≡ true
+unfolding has_ticket same_seq
 ticket_ok held a n p q = rw (p, q, anchor_same a a refl, eqb_same) refl
 
 -- the four views
@@ -83,22 +84,22 @@ module _ (l : HeadLifecycle) (a : ReadAnchor) (spare : ℕ) where
 
 module _ (d : Driver) (v : Ordered d.life) where
   -- a claim under the current ticket tells the pose, and of an unclaimed head the epoch
-  pub claim_answers : (c : CurrentHead) → d.life.current ≡ c → (a : ReadAnchor) → anchor_of (delivery c) ≡ Some a → (claim d (record { anchor = a; seq = d.life.seq })).answer ≡ claim_answer c d.life.claim_epoch
-  unfolding claim claim_start claim_gate claim_as delivery anchor_of
+  pub claim_answers : (c : CurrentHead) → d.life.current ≡ c → (a : ReadAnchor) → anchor_of (delivery c) ≡ Some a → (claim d (record { anchor = a; seq = d.life.seq })).answer ≡ claim_tells c d.life.claim_epoch
+  unfolding claim claim_life claim_held claim_answer with_life delivery anchor_of is_settled is_preparing
   claim_answers CurrentHead.Absent q a e = nothing_at e
-  claim_answers (CurrentHead.Unclaimed u) q a e = rw (q, ticket_ok u.delivery a d.life.seq (same_Some _ _ e) (rw q at v.seq_current), not_installed d.life v _ q tt a e) refl
-  claim_answers (CurrentHead.Preparing u) q a e = rw (q, ticket_ok u.delivery a d.life.seq (same_Some _ _ e) (rw q at v.seq_current), not_installed d.life v _ q tt a e) refl
-  claim_answers (CurrentHead.Settled s) q a e = rw (q, ticket_ok s.delivery a d.life.seq (same_Some _ _ e) (rw q at v.seq_current), same_holds _ _ ((rw q at v.settled_installed) ∙ e)) refl
+  claim_answers (CurrentHead.Unclaimed u) q a e = rw (q, ticket_ok u.delivery a d.life.seq (same_Some _ _ e) (rw q at v.seq_current), not_installed d.life v _ q tt _ refl) refl
+  claim_answers (CurrentHead.Preparing u) q a e = rw (q, ticket_ok u.delivery a d.life.seq (same_Some _ _ e) (rw q at v.seq_current), not_installed d.life v _ q tt _ refl) refl
+  claim_answers (CurrentHead.Settled s) q a e = rw (q, ticket_ok s.delivery a d.life.seq (same_Some _ _ e) (rw q at v.seq_current), same_holds _ _ (rw q at v.settled_installed)) refl
 
   -- a completion at the current anchor tells the end
   pub completion_answers : (a : ReadAnchor) → current_anchor d ≡ Some a → (completion d a).answer ≡ Answer.Completion (published d.life.current)
-  unfolding completion end_at
+  unfolding completion completion_at
   completion_answers a e = rw (same_holds _ _ e) refl
 
   -- a delivery of the current anchor tells whether its parent hash is the current one
   pub deliver_answers : (held : HeadDelivery) → delivery d.life.current ≡ Some held → (a : ReadAnchor) → held.anchor ≡ a → (p : Hash) (cold : ℕ)
       → (deliver d a p cold).answer ≡ Answer.Ticket (cond (same_hash held.parent_hash p) d.life.seq (next_seq d.life.seq))
-  unfolding deliver repeats repeat_of same_delivery deliver_as
+  unfolding deliver deliver_life repeats old_seq
   deliver_answers held q a e p cold =
       let n : held.seq ≡ d.life.seq = rw q at v.seq_current in
       rw (q, anchor_same held.anchor a e, n) (by_test (same_hash held.parent_hash p) (λ t. rw t refl) (λ f. rw f refl))

@@ -1,18 +1,19 @@
 -- What is shown against what can be told: a driver is alike to what its sheet shows, so drivers that show the same answer alike; and drivers that are alike show the same.
-use Rattle.std.specs.Prelude.{Option, Some, cond, ◌&&◌}
+use Rattle.std.proofs.lemmas.Bool.{or_parts}
+use Rattle.std.specs.Prelude.{Option, Some, ◌&&◌}
 use Rattle.head_ready.specs.declared.Generation.{Generation}
 use Rattle.head_current.specs.declared.DeltaReport.{DeltaReport}
 use Prim.Native.Nat.{ℕ}
-use mathlib.Core.Bool.{Bool, true, false}
+use mathlib.Core.Bool.{Bool, false}
 use mathlib.Core.List.{List, [], ◌∷◌}
 use mathlib.Core.Path.{◌≡◌, refl, sym, ap, ◌∙◌, subst, ap₂}
 use Rattle.head_step.specs.Steps.{step}
-use Rattle.head_anchor.specs.Anchors.{holds}
+use Rattle.head_values.specs.Anchors.{holds}
 use Rattle.head_attempt.specs.Attempts.{settled}
 use Rattle.head_count.specs.Counters.{seq_of}
-use Rattle.head_current.specs.Heads.{anchor_of, delivery}
+use Rattle.head_current.specs.Heads.{anchor_of, delivery, is_settled}
 use Rattle.head_ready.specs.Generations.{slot_anchor}
-use Rattle.head_anchor.specs.declared.ReadAnchor.{ReadAnchor}
+use Rattle.head_values.specs.declared.ReadAnchor.{ReadAnchor}
 use Rattle.head_count.specs.declared.Epoch.{Epoch}
 use Rattle.head_attempt.specs.declared.HeadCompletion.{HeadCompletion}
 use Rattle.head_attempt.specs.declared.Waiter.{Waiter}
@@ -25,8 +26,7 @@ use Rattle.head_call.specs.declared.Call.{Call}
 use Rattle.alike.proofs.Alike.{Alike, SameHead, SameSuperseded, Telling, both_step, driver_of, same_of}
 use Rattle.alike.proofs.KeptOrder.{ordered_step}
 use Rattle.alike.proofs.Masks.{mask_holds, mask_same}
-use Rattle.alike.proofs.Tests.{true_false}
-use Rattle.alike.specs.Canon.{canon, is_settled, masked, shown_head, shown_life, shown_superseded, shown_waiter, shown_waiters}
+use Rattle.alike.specs.Canon.{canon, masked, shown_head, shown_life, shown_superseded, shown_waiter, shown_waiters}
 use Rattle.alike.specs.Invariant.{Ordered, WhenSettled}
 use Rattle.alike.specs.Runs.{answers}
 use Rattle.alike.specs.Statements.{ShowsEnough}
@@ -34,20 +34,18 @@ use Rattle.alike.specs.Statements.{ShowsEnough}
 -- Masked is just where no answer tells.
 
 settled_both : (c : CurrentHead) (x : Bool) → (is_settled c && x) ≡ false → WhenSettled c (λ s. x ≡ false)
+unfolding is_settled
 settled_both CurrentHead.Absent x e = tt
 settled_both (CurrentHead.Unclaimed u) x e = tt
 settled_both (CurrentHead.Preparing u) x e = tt
 settled_both (CurrentHead.Settled s) x e = e
 
 both_settled_false : (c : CurrentHead) (x : Bool) → WhenSettled c (λ s. x ≡ false) → (is_settled c && x) ≡ false
+unfolding is_settled
 both_settled_false CurrentHead.Absent x e = refl
 both_settled_false (CurrentHead.Unclaimed u) x e = refl
 both_settled_false (CurrentHead.Preparing u) x e = refl
 both_settled_false (CurrentHead.Settled s) x e = e
-
-either_false : (t r : Bool) → cond t true r ≡ false → (t ≡ false) × (r ≡ false)
-either_false true r e = true_false refl e
-either_false false r e = (refl, e)
 
 telling_unmasked : (c : CurrentHead) (p : Option Generation) (a : ReadAnchor) → Telling c p a → masked c p a ≡ false
 unfolding masked
@@ -56,7 +54,7 @@ telling_unmasked c p a t = rw t.0 (both_settled_false c (holds (slot_anchor p) a
 unmasked_telling : (c : CurrentHead) (p : Option Generation) (a : ReadAnchor) → masked c p a ≡ false → Telling c p a
 unfolding masked
 unmasked_telling c p a e =
-    let b = either_false (holds (anchor_of (delivery c)) a) (is_settled c && holds (slot_anchor p) a) e in
+    let b = or_parts (holds (anchor_of (delivery c)) a) (is_settled c && holds (slot_anchor p) a) e in
     (b.0, settled_both c (holds (slot_anchor p) a) b.1)
 
 -- A driver and what it shows are alike.
@@ -124,7 +122,7 @@ unfolding shown_head
 same_shown w n e = same_of w (shown_head n e) (λ held h k l t. refl) (λ held r k l t. refl)
 
 same_masked : {c₁ c₂ : CurrentHead} → SameHead c₁ c₂ → (p : Option Generation) (s : Option ReadAnchor) → shown_superseded c₁ p s ≡ shown_superseded c₂ p s
-unfolding shown_superseded masked delivery
+unfolding shown_superseded masked delivery is_settled
 same_masked w p s = same_of w (λ c. shown_superseded c p s) (λ held h k l t. refl) (λ held r k l t. refl)
 
 same_superseded : (c : CurrentHead) (p : Option Generation) (s₁ s₂ : Option ReadAnchor) → SameSuperseded c p s₁ s₂ → shown_superseded c p s₁ ≡ shown_superseded c p s₂

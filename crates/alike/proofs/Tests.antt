@@ -1,6 +1,6 @@
 -- The tests of the state machine as equations: a test of equality holds exactly of equals; and what a saturating counter does.
-use Rattle.std.proofs.lemmas.Bool.{cond_both, and_parts}
-use Rattle.std.specs.Prelude.{Option, None, Some, ◌&&◌}
+use Rattle.std.proofs.lemmas.Bool.{cond_both, and_parts, false_from_ne_true}
+use Rattle.std.specs.Prelude.{Option, None, Some, not, ◌&&◌}
 use Prim.Native.Nat.{ℕ, ◌+◌, ◌≤◌, ◌<◌}
 use mathlib.Core.Bool.{Bool, true, false}
 use mathlib.Core.Path.{◌≡◌, refl, ap}
@@ -9,10 +9,10 @@ use lib.Dec.{eqb, ltb}
 use borrow.Author.Tests.{eq-eqb, ltb-true, ltb-false, eqb-true}
 use Rattle.std.specs.Option.{option_eq}
 use Rattle.hash.specs.Hashes.{same_hash}
-use Rattle.head_anchor.specs.Anchors.{holds, same_anchor}
+use Rattle.head_values.specs.Anchors.{holds, same_anchor}
 use Rattle.head_count.specs.Counters.{up}
 use Rattle.hash.specs.declared.Hash.{Hash}
-use Rattle.head_anchor.specs.declared.ReadAnchor.{ReadAnchor}
+use Rattle.head_values.specs.declared.ReadAnchor.{ReadAnchor}
 use Rattle.hash.specs.Ranges.{Fits}
 
 pub true_false : {X : Type 0} {b : Bool} → b ≡ true → b ≡ false → X
@@ -23,10 +23,21 @@ pub by_test : {X : Type 0} (b : Bool) → (b ≡ true → X) → (b ≡ false �
 by_test true t f = t refl
 by_test false t f = f refl
 
+pub true_from_not_false : (b : Bool) → not b ≡ false → b ≡ true
+true_from_not_false true e = refl
+true_from_not_false false e = true_false refl e
+
+pub false_from_not_true : (b : Bool) → not b ≡ true → b ≡ false
+false_from_not_true true e = true_false e refl
+false_from_not_true false e = refl
+
 -- numbers
 
 pub eqb_same : (n : ℕ) → eqb n n ≡ true
 eqb_same n = eq-eqb n n refl
+
+pub at_most_15 : (n : ℕ) → n < 16 → ltb 15 n ≡ false
+at_most_15 n h = false_from_ne_true _ (λ t. omega (arith, ltb-true 15 n t))
 
 -- hashes and anchors
 

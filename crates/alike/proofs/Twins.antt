@@ -1,8 +1,6 @@
 -- Two drivers that keep the invariant and answer alike; so do the drivers that a call leaves of them.
 use mathlib.Core.List.{List, [], ◌∷◌}
 use mathlib.Core.Path.{◌≡◌, sym, ap}
-use Rattle.head_step.proofs.Asked.{asked}
-use Rattle.head_step.specs.Dispatch.{dispatch}
 use Rattle.head_step.specs.Steps.{step}
 use Rattle.head_driver.specs.declared.Answer.{Answer}
 use Rattle.head_driver.specs.declared.Driver.{Driver}
@@ -30,13 +28,10 @@ rest [] = []
 rest (b ∷ bs) = bs
 
 module _ {d₁ d₂ : Driver} (w : Twin d₁ d₂) (c : Call) (r : Writable c) where
-  pub twin_answer : (dispatch d₁ c).answer ≡ (dispatch d₂ c).answer
+  pub twin_answer : (step d₁ c).answer ≡ (step d₂ c).answer
   unfolding answers
-  twin_answer = rw (asked d₁ c, asked d₂ c) at (ap (first_or Answer.Done) (w.same_answers (c ∷ []) (r, tt)))
+  twin_answer = ap (first_or Answer.Done) (w.same_answers (c ∷ []) (r, tt))
 
-  pub twin_step : Twin (dispatch d₁ c).driver (dispatch d₂ c).driver
+  pub twin_step : Twin (step d₁ c).driver (step d₂ c).driver
   unfolding answers
-  twin_step = rw (asked d₁ c, asked d₂ c) at stepped
-    where
-      stepped : Twin (step d₁ c).driver (step d₂ c).driver
-      stepped = record { same_answers = λ cs rs. ap rest (w.same_answers (c ∷ cs) (r, rs)); invariant₁ = kept d₁ c w.invariant₁ r; invariant₂ = kept d₂ c w.invariant₂ r }
+  twin_step = record { same_answers = λ cs rs. ap rest (w.same_answers (c ∷ cs) (r, rs)); invariant₁ = kept d₁ c w.invariant₁ r; invariant₂ = kept d₂ c w.invariant₂ r }

@@ -1,7 +1,7 @@
 -- Probes of the waiters. A resume of a waiter, where the head is preparing at an anchor, tells a free one, one that is parked or stays so, and one that gets a view: of the
 -- head's own anchor or of another. Brought to a preparation at its own anchor, a waiter that is not parked tells all; a parked one is released first.
 use Rattle.std.proofs.lemmas.Option.{same_Some}
-use Rattle.std.proofs.lemmas.Bool.{cond_both, false_from_ne_true}
+use Rattle.std.proofs.lemmas.Bool.{and_parts, cond_both, false_from_ne_true}
 use Rattle.std.specs.Prelude.{Option, None, Some, cond}
 use Rattle.head_ready.specs.declared.Generation.{Generation}
 use Rattle.head_current.specs.declared.HeadDelivery.{HeadDelivery}
@@ -12,26 +12,25 @@ use mathlib.Core.Path.{◌≡◌, refl, sym, ap, ◌∙◌}
 use native.Mathlib.Omega.{arith}
 use lib.Dec.{lit<}
 use lib.Seq.{ext_get_or}
-use borrow.Author.Tests.{lt-ltb}
-use Rattle.head_anchor.specs.Anchors.{holds, same_anchor}
+use Rattle.head_values.specs.Anchors.{holds, same_anchor}
 use Rattle.head_attempt.specs.Waiters.{slot_of, woken}
-use Rattle.head_current.specs.Heads.{anchor_of, delivery}
-use Rattle.head_deliver.specs.Repeats.{repeat_of, repeats, same_delivery}
-use Rattle.head_claim.specs.Claimed.{claimed_head, claimed}
-use Rattle.head_driver.specs.Parts.{wake_current, ending_with, with_life}
-use Rattle.head_claim.specs.Claim.{claim, claim_as}
-use Rattle.head_deliver.specs.Deliver.{deliver, deliver_as}
-use Rattle.head_snapshot.specs.Snapshot.{viewed}
-use Rattle.head_claim.specs.Starts.{claim_gate, claim_start}
-use Rattle.head_release.specs.Released.{released}
-use Rattle.head_deliver.specs.Delivered.{delivered, new_head}
+use Rattle.head_current.specs.Heads.{anchor_of, delivery, preparing_at, is_preparing, is_settled}
+use Rattle.head_life.specs.Deliver.{repeats, deliver_life, new_head}
+use Rattle.head_current.specs.Moves.{claimed_head}
+use Rattle.head_life.specs.Claim.{claim_life, claim_held}
+use Rattle.head_driver.specs.Moved.{moved, woken_waiters}
+use Rattle.head_driver.specs.Parts.{with_life}
+use Rattle.head_calls.specs.Claim.{claim}
+use Rattle.head_calls.specs.Deliver.{deliver}
+use Rattle.head_waits.specs.Snapshot.{viewed}
 use Rattle.head_ready.specs.Generations.{is_ready}
 use Rattle.head_life.specs.State.{counted}
-use Rattle.head_step.specs.Dispatch.{dispatch}
-use Rattle.head_view.specs.Views.{generation_view, spare_view, view, view_of}
-use Rattle.head_waits.specs.Calls.{abandoned_view, join, preparing_at, resume, resume_as, unowned, viewed_by, waiter_at}
+use Rattle.head_step.specs.Steps.{step}
+use Rattle.head_life.specs.Views.{generation_view, spare_view, view, view_of}
+use Rattle.head_waits.specs.Waits.{abandoned_view, waits_anew, resume, resume_as, shown_by_wait, view_frees, resume_as}
+use Rattle.head_waits.specs.Parts.{waiter_at}
 use Rattle.hash.specs.declared.Hash.{Hash}
-use Rattle.head_anchor.specs.declared.ReadAnchor.{ReadAnchor}
+use Rattle.head_values.specs.declared.ReadAnchor.{ReadAnchor}
 use Rattle.head_attempt.specs.declared.HeadCompletion.{HeadCompletion}
 use Rattle.head_count.specs.declared.Seq.{Seq}
 use Rattle.head_attempt.specs.declared.Waiter.{Waiter}
@@ -52,12 +51,14 @@ use Rattle.alike.proofs.DeepProbes.{twin_cold, twin_colded}
 use Rattle.alike.proofs.Poses.{Pose, Unsettled, by_pose, current_anchor, installed_anchor, not_installed, pose, preparing_of, provisional_of, settled_anchor}
 use Rattle.alike.proofs.Probes.{anchor_fits, probe_anchors, probe_pose, probe_seq, twin_anchor, twin_unsettled, zero_fits}
 use Rattle.alike.proofs.Replies.{current_pass, ticket_ok, view_current}
-use Rattle.alike.proofs.Tests.{anchor_same, by_test, holds_same, same_anchor_lem, same_holds, true_false}
+use Rattle.alike.proofs.Tests.{anchor_same, by_test, holds_same, same_anchor_lem, same_holds, true_false, at_most_15}
 use Rattle.alike.proofs.Twins.{Twin, twin_answer, twin_step, twin_sym}
-use Rattle.alike.proofs.Waking.{at_fits, at_none, ending_at, wake_at, woken_not}
+use Rattle.alike.proofs.Waking.{at_fits, at_none, wake_at, woken_not, woken_at}
 use Rattle.alike.specs.Invariant.{NotParked, Ordered, Parks}
-use Rattle.head_anchor.specs.Ranges.{AnchorFits}
+use Rattle.head_values.specs.Ranges.{AnchorFits}
 use Rattle.alike.specs.Ranges.{WaiterFits}
+use Rattle.head_attempt.specs.Attempts.{publish, first_end, minted}
+use Rattle.alike.proofs.Nexts.{released_at}
 
 -- what a resume's answer tells
 abbrev vacant : ℕ
@@ -90,9 +91,9 @@ tells (Answer.Link k) = 4
 tells (Answer.Report r) = 4
 tells (Answer.Stats s) = 4
 tells (Answer.Heads c i p) = 4
-tells Answer.ListAtOdds = 4
-tells Answer.WaiterOutOfRange = 4
-tells Answer.WaiterTaken = 4
+tells Answer.ListDisagrees = 4
+tells Answer.WaiterAbove15 = 4
+tells Answer.WaiterNotFree = 4
 tells Answer.WaiterFree = vacant
 
 -- the mark of a waiter, for a head that is preparing at that anchor
@@ -135,8 +136,8 @@ module _ (d : Driver) (v : Ordered d.life) (a : ReadAnchor) (k : pose d.life.cur
   view_other : (b : ReadAnchor) (spare : ℕ) → same_anchor a b ≡ false → source_tells (view d.life b spare).source ≡ shown_elsewhere
   view_other b spare f = view_source d.life b spare ((prepares_at d.life.current a k e b).1 ∙ f)
 
-  resume_tells : (w : Waiter) (n spare : ℕ) → tells (resume_as d w n spare).answer ≡ mark a w
-  unfolding resume_as viewed_by viewed join unowned
+  resume_tells : (w : Waiter) (n spare : ℕ) → tells (resume_as d n spare w).answer ≡ mark a w
+  unfolding resume_as view_frees viewed waits_anew shown_by_wait
   resume_tells Waiter.Free n spare = refl
   resume_tells Waiter.Parked n spare = refl
   resume_tells (Waiter.Abandoned b) n spare = by_test (same_anchor a b)
@@ -149,9 +150,9 @@ module _ (d : Driver) (v : Ordered d.life) (a : ReadAnchor) (k : pose d.life.cur
 -- Twins that are preparing at an anchor have the same marks.
 
 twin_mark : {d₁ d₂ : Driver} → Twin d₁ d₂ → (a : ReadAnchor) → pose d₁.life.current ≡ Pose.Preparing → current_anchor d₁ ≡ Some a → (n : ℕ) → n < 16 → mark a (waiter_at d₁.waiters n) ≡ mark a (waiter_at d₂.waiters n)
-unfolding dispatch resume
+unfolding step resume
 twin_mark {d₁} {d₂} w a k e n b =
-    let q = rw (lt-ltb n 16 b) at (twin_answer w (Call.Resume n 0) (omega arith, zero_fits)) in
+    let q = rw (at_most_15 n b) at (twin_answer w (Call.Resume n 0) (omega arith, zero_fits)) in
     sym (resume_tells d₁ w.invariant₁.ordered a k e (waiter_at d₁.waiters n) n 0)
     ∙ ap tells q
     ∙ resume_tells d₂ w.invariant₂.ordered a (sym (probe_pose w) ∙ k) (twin_anchor w a e) (waiter_at d₂.waiters n) n 0
@@ -163,30 +164,22 @@ record Delivered (d : Driver) (a : ReadAnchor) (e : Driver) : Type 0 where
   anchors : current_anchor e ≡ Some a
   keeps : (n : ℕ) → NotParked (waiter_at d.waiters n) → waiter_at e.waiters n ≡ waiter_at d.waiters n
 
-repeated_anchor : (s : Option HeadDelivery) (a : ReadAnchor) (p : Hash) (n : Seq) → repeats s a p ≡ Some n → anchor_of s ≡ Some a
-unfolding repeats repeat_of same_delivery anchor_of
-repeated_anchor None a p n e = cc
-repeated_anchor (Some held) a p n e = by_test (same_anchor held.anchor a)
-    (λ t. ap Some (same_anchor_lem _ _ t))
-    (λ f.
-    let q : None ≡ Some n = rw f at e in
-    let z : ◌≡◌ {A = ℕ} 0 1 = cc in
-    absurd (omega arith))
+repeated_anchor : (s : Option HeadDelivery) (a : ReadAnchor) (p : Hash) → repeats s a p ≡ true → anchor_of s ≡ Some a
+unfolding repeats anchor_of
+repeated_anchor None a p e = cc
+repeated_anchor (Some held) a p e = ap Some (same_anchor_lem _ _ (and_parts _ _ e).0)
 
-deliver_as_lem : (d : Driver) → Ordered d.life → (a : ReadAnchor) → holds (installed_anchor d) a ≡ false → (r : Option Seq) → repeats (delivery d.life.current) a zeros ≡ r → Delivered d a (deliver_as d a zeros 0 r).driver
-unfolding deliver_as delivered new_head delivery anchor_of with_life counted
-deliver_as_lem d v a o None q = rw o (record { unsettles = tt; anchors = refl; keeps = λ n z. ending_at HeadCompletion.Superseded d.life.current d.waiters n z })
-deliver_as_lem d v a o (Some k) q =
-    let c = repeated_anchor (delivery d.life.current) a zeros k q in
-    record {
+deliver_kept : (d : Driver) → Ordered d.life → (a : ReadAnchor) → holds (installed_anchor d) a ≡ false → Delivered d a (step d (delivering a)).driver
+unfolding step deliver deliver_life new_head moved counted
+deliver_kept d v a o = by_test (repeats (delivery d.life.current) a zeros)
+    (λ t.
+    let c = repeated_anchor (delivery d.life.current) a zeros t in
+    rw t (record {
       unsettles = by_pose (pose d.life.current) (λ u. u) (λ n. true_false (same_holds _ _ (sym (settled_anchor d.life v _ refl n) ∙ c)) o);
       anchors = c;
-      keeps = λ n z. refl;
-    }
-
-deliver_kept : (d : Driver) → Ordered d.life → (a : ReadAnchor) → holds (installed_anchor d) a ≡ false → Delivered d a (dispatch d (delivering a)).driver
-unfolding dispatch deliver
-deliver_kept d v a o = deliver_as_lem d v a o _ refl
+      keeps = λ n z. woken_at HeadCompletion.Superseded d.life.current d.life.current d.waiters n z;
+    }))
+    (λ f. rw (f, o) (record { unsettles = tt; anchors = unfold delivery anchor_of in refl; keeps = λ n z. woken_at HeadCompletion.Superseded d.life.current _ d.waiters n z }))
 
 -- A claim of an unsettled head leaves it preparing.
 
@@ -198,13 +191,13 @@ record Prepared (d : Driver) (a : ReadAnchor) (e : Driver) : Type 0 where
 claiming : ReadAnchor → Seq → Call
 claiming a n = Call.Claim (record { anchor = a; seq = n })
 
-claim_prepares : (d : Driver) → Ordered d.life → (c : CurrentHead) → d.life.current ≡ c → Unsettled (pose c) → (a : ReadAnchor) → anchor_of (delivery c) ≡ Some a → Prepared d a (dispatch d (claiming a d.life.seq)).driver
-unfolding claiming dispatch claim claim_start claim_gate claim_as claimed claimed_head with_life delivery anchor_of
+claim_prepares : (d : Driver) → Ordered d.life → (c : CurrentHead) → d.life.current ≡ c → Unsettled (pose c) → (a : ReadAnchor) → anchor_of (delivery c) ≡ Some a → Prepared d a (step d (claiming a d.life.seq)).driver
+unfolding claiming step claim claim_life claim_held claimed_head with_life delivery anchor_of is_settled is_preparing
 claim_prepares d v CurrentHead.Absent q u a e = absurd u
 claim_prepares d v (CurrentHead.Unclaimed x) q u a e =
-    rw (q, ticket_ok x.delivery a d.life.seq (same_Some _ _ e) (rw q at v.seq_current), not_installed d.life v _ q tt a e) (record { prepares = refl; anchors = e; keeps = refl })
+    rw (q, ticket_ok x.delivery a d.life.seq (same_Some _ _ e) (rw q at v.seq_current), not_installed d.life v _ q tt _ refl) (record { prepares = refl; anchors = e; keeps = refl })
 claim_prepares d v (CurrentHead.Preparing x) q u a e =
-    rw (q, ticket_ok x.delivery a d.life.seq (same_Some _ _ e) (rw q at v.seq_current), not_installed d.life v _ q tt a e) (record { prepares = refl; anchors = e; keeps = refl })
+    rw (q, ticket_ok x.delivery a d.life.seq (same_Some _ _ e) (rw q at v.seq_current), not_installed d.life v _ q tt _ refl) (record { prepares = refl; anchors = e; keeps = refl })
 claim_prepares d v (CurrentHead.Settled x) q u a e = absurd u
 
 -- Waiters that are not parked have the same mark at every anchor: the anchor is delivered and claimed. Where it is installed, another is installed in its place first.
@@ -217,7 +210,7 @@ module _ (a : ReadAnchor) (f : AnchorFits a) (n : ℕ) (b : n < 16) where
   marks_claim {d₁} {d₂} w u e =
       let z = twin_step w (claiming a d₁.life.seq) (unfold claiming in (f, w.invariant₁.fits.life.seq)) in
       let p₁ = claim_prepares d₁ w.invariant₁.ordered _ refl u a e in
-      let p₂ : Prepared d₂ a (dispatch d₂ (claiming a d₁.life.seq)).driver = rw (probe_seq w) (claim_prepares d₂ w.invariant₂.ordered _ refl (twin_unsettled w u) a (twin_anchor w a e)) in
+      let p₂ : Prepared d₂ a (step d₂ (claiming a d₁.life.seq)).driver = rw (probe_seq w) (claim_prepares d₂ w.invariant₂.ordered _ refl (twin_unsettled w u) a (twin_anchor w a e)) in
       ap (λ ws. mark a (waiter_at ws n)) (sym p₁.keeps) ∙ twin_mark z a p₁.prepares p₁.anchors n b ∙ ap (λ ws. mark a (waiter_at ws n)) p₂.keeps
 
   marks_deliver : {d₁ d₂ : Driver} → Twin d₁ d₂ → holds (installed_anchor d₁) a ≡ false → NotParked (waiter_at d₁.waiters n) → NotParked (waiter_at d₂.waiters n) → Marked d₁ d₂
@@ -241,8 +234,8 @@ module _ (a : ReadAnchor) (f : AnchorFits a) (n : ℕ) (b : n < 16) where
       let z = twin_cold w elsewhere (anchor_fits w elsewhere e) in
       let c₁ = cold_step d₁ w.invariant₁.ordered u elsewhere e in
       let c₂ = twin_colded w u elsewhere e in
-      let q₁ = ap (λ ws. waiter_at ws n) c₁.wakes ∙ ending_at HeadCompletion.Settled d₁.life.current d₁.waiters n k₁ in
-      let q₂ = ap (λ ws. waiter_at ws n) c₂.wakes ∙ ending_at HeadCompletion.Settled d₂.life.current d₂.waiters n k₂ in
+      let q₁ = ap (λ ws. waiter_at ws n) c₁.wakes ∙ woken_at HeadCompletion.Settled d₁.life.current _ d₁.waiters n k₁ in
+      let q₂ = ap (λ ws. waiter_at ws n) c₂.wakes ∙ woken_at HeadCompletion.Settled d₂.life.current _ d₂.waiters n k₂ in
       let i : same_anchor elsewhere a ≡ false = false_from_ne_true _ (λ t. true_false (anchor_same a elsewhere (sym (same_anchor_lem _ _ t))) elsewhere_not) in
       ap (mark a) (sym q₁) ∙ marks_deliver z (rw c₁.installs i) (rw q₁ k₁) (rw q₂ k₂) ∙ ap (mark a) q₂
 
@@ -303,10 +296,13 @@ parked_same a Waiter.Parked m e = refl
 parked_same a (Waiter.Abandoned b) m e = neither_of (same_anchor a b) stays shown_here shown_elsewhere (λ z. omega arith) (λ z. omega arith) m
 parked_same a (Waiter.Ended b) m e = cc
 
--- what a release leaves of the waiters of a preparing head
-released_at : (d : Driver) (u : UnsettledHead) → d.life.current ≡ CurrentHead.Preparing u → (n : ℕ) → waiter_at (ending_with d (released d.life) HeadCompletion.Abandoned).waiters n ≡ woken HeadCompletion.Abandoned u.delivery.anchor (waiter_at d.waiters n)
-unfolding wake_current
-released_at d u q n = rw q (wake_at HeadCompletion.Abandoned u.delivery.anchor d.waiters n)
+-- what a release leaves of the waiters of a preparing head: its attempt is open until then
+released_waiter : (d : Driver) → Ordered d.life → (u : UnsettledHead) → d.life.current ≡ CurrentHead.Preparing u → (n : ℕ)
+    → waiter_at (moved d (released_at d.life u) HeadCompletion.Abandoned).waiters n ≡ woken HeadCompletion.Abandoned u.delivery.anchor (waiter_at d.waiters n)
+unfolding moved woken_waiters is_preparing publish first_end minted
+released_waiter d v u q n =
+    let t : u.attempt ≡ minted d.life.claim_epoch = rw q at v.preparing_attempt in
+    rw (q, t) (wake_at HeadCompletion.Abandoned u.delivery.anchor d.waiters n)
 
 probe_parked : {d₁ d₂ : Driver} → Twin d₁ d₂ → d₁.life.claim_epoch ≡ d₂.life.claim_epoch → (n : ℕ) → n < 16 → waiter_at d₁.waiters n ≡ Waiter.Parked → Waiter.Parked ≡ waiter_at d₂.waiters n
 unfolding delivery anchor_of woken
@@ -321,8 +317,8 @@ probe_parked {d₁} {d₂} w e n b q =
     let a₂ : p₂.0.delivery.anchor ≡ a = same_Some _ _ (sym (ap (λ c. anchor_of (delivery c)) p₂.1) ∙ twin_anchor w a a₁) in
     let z = rw (release_hit d₁ v₁ p₁.0 p₁.1 d₁.life.seq d₁.life.claim_epoch refl refl, release_hit d₂ v₂ p₂.0 p₂.1 d₁.life.seq d₁.life.claim_epoch (sym (probe_seq w)) (sym e))
     at (twin_step w (Call.Release (record { seq = d₁.life.seq; epoch = d₁.life.claim_epoch })) (w.invariant₁.fits.life.seq, w.invariant₁.fits.life.epoch)) in
-    let x₁ = released_at d₁ p₁.0 p₁.1 n ∙ ap (woken HeadCompletion.Abandoned a) q in
-    let x₂ = released_at d₂ p₂.0 p₂.1 n ∙ ap (λ c. woken HeadCompletion.Abandoned c (waiter_at d₂.waiters n)) a₂ in
+    let x₁ = released_waiter d₁ v₁ p₁.0 p₁.1 n ∙ ap (woken HeadCompletion.Abandoned a) q in
+    let x₂ = released_waiter d₂ v₂ p₂.0 p₂.1 n ∙ ap (λ c. woken HeadCompletion.Abandoned c (waiter_at d₂.waiters n)) a₂ in
     let m = twin_mark w a k a₁ n b in
     parked_same a (waiter_at d₂.waiters n) (rw q at m)
     (sym x₁ ∙ probe_open z n b (rw x₁ tt) (rw x₂ (woken_not HeadCompletion.Abandoned a (waiter_at d₂.waiters n) tt)) ∙ x₂)

@@ -2,18 +2,21 @@
 use Prim.Native.Nat.{ℕ, zero, suc}
 use mathlib.Core.List.{List, [], ◌∷◌}
 use mathlib.Core.Path.{◌≡◌, refl, ap, ◌∙◌}
-use lib.ListN.{length, set}
+use lib.ListN.{length, set, replicate}
+use Rattle.std.proofs.lemmas.Bool.{cond_both}
+use mathlib.Core.Bool.{false}
+use Rattle.head_attempt.specs.Attempts.{first_end, publish}
 use Rattle.head_attempt.specs.Waiters.{slot_of, wake, woken}
-use Rattle.head_driver.specs.Parts.{wake_current}
-use Rattle.head_driver.specs.New.{free}
-use Rattle.head_waits.specs.Calls.{waiter_at}
-use Rattle.head_anchor.specs.declared.ReadAnchor.{ReadAnchor}
+use Rattle.head_current.specs.Heads.{is_preparing}
+use Rattle.head_driver.specs.Moved.{woken_waiters}
+use Rattle.head_waits.specs.Parts.{waiter_at}
+use Rattle.head_values.specs.declared.ReadAnchor.{ReadAnchor}
 use Rattle.head_attempt.specs.declared.HeadCompletion.{HeadCompletion}
 use Rattle.head_attempt.specs.declared.Waiter.{Waiter}
 use Rattle.head_attempt.specs.declared.WaiterSlot.{WaiterSlot}
 use Rattle.head_current.specs.declared.CurrentHead.{CurrentHead}
 use Rattle.alike.specs.Invariant.{NoneParked, NotParked, Parks}
-use Rattle.head_anchor.specs.Ranges.{AnchorFits}
+use Rattle.head_values.specs.Ranges.{AnchorFits}
 use Rattle.head_current.specs.Ranges.{HeadFits}
 use Rattle.alike.specs.Ranges.{WaiterFits, WaitersFit}
 
@@ -74,35 +77,61 @@ wake_at t a [] n = unfold woken in refl
 wake_at t a (w ∷ ws) zero = refl
 wake_at t a (w ∷ ws) (suc n) = wake_at t a ws n
 
--- those of the current preparation, if there is one
+-- those of the current preparation, if it ends
 
-pub ending_length : (t : HeadCompletion) (c : CurrentHead) (ws : List WaiterSlot) → length (wake_current t c ws) ≡ length ws
-unfolding wake_current
-ending_length t CurrentHead.Absent ws = refl
-ending_length t (CurrentHead.Unclaimed u) ws = refl
-ending_length t (CurrentHead.Preparing u) ws = wake_length t u.delivery.anchor ws
-ending_length t (CurrentHead.Settled s) ws = refl
+pub ends_first : (e t : HeadCompletion) → Ends t → Ends (first_end e t)
+unfolding first_end
+ends_first HeadCompletion.Open t h = h
+ends_first HeadCompletion.Settled t h = tt
+ends_first HeadCompletion.Superseded t h = tt
+ends_first HeadCompletion.Abandoned t h = tt
 
-pub ending_none : (t : HeadCompletion) (c : CurrentHead) (ws : List WaiterSlot) → Ends t → Parks c ws → NoneParked (wake_current t c ws)
-unfolding wake_current
-ending_none t CurrentHead.Absent ws h k = k
-ending_none t (CurrentHead.Unclaimed u) ws h k = k
-ending_none t (CurrentHead.Preparing u) ws h k = wake_none t u.delivery.anchor ws h
-ending_none t (CurrentHead.Settled s) ws h k = k
+-- a head that stays as it is ends nothing
+pub woken_not_moved : (t : HeadCompletion) (c : CurrentHead) (ws : List WaiterSlot) → woken_waiters t c c ws ≡ ws
+unfolding woken_waiters is_preparing
+woken_not_moved t CurrentHead.Absent ws = refl
+woken_not_moved t (CurrentHead.Unclaimed u) ws = refl
+woken_not_moved t (CurrentHead.Preparing u) ws = refl
+woken_not_moved t (CurrentHead.Settled s) ws = refl
 
-pub ending_fits : (t : HeadCompletion) (c : CurrentHead) (ws : List WaiterSlot) → HeadFits c → WaitersFit ws → WaitersFit (wake_current t c ws)
-unfolding wake_current
-ending_fits t CurrentHead.Absent ws f g = g
-ending_fits t (CurrentHead.Unclaimed u) ws f g = g
-ending_fits t (CurrentHead.Preparing u) ws f g = wake_fits t u.delivery.anchor ws f.delivery.anchor g
-ending_fits t (CurrentHead.Settled s) ws f g = g
+module _ (t : HeadCompletion) where
+  pub woken_length : (c now : CurrentHead) (ws : List WaiterSlot) → length (woken_waiters t c now ws) ≡ length ws
+  unfolding woken_waiters
+  woken_length CurrentHead.Absent now ws = refl
+  woken_length (CurrentHead.Unclaimed u) now ws = refl
+  woken_length (CurrentHead.Preparing u) now ws = cond_both (is_preparing now) _ _ (λ (x : List WaiterSlot). length x ≡ length ws) (λ e. refl) (λ e. wake_length _ _ ws)
+  woken_length (CurrentHead.Settled s) now ws = refl
 
-pub ending_at : (t : HeadCompletion) (c : CurrentHead) (ws : List WaiterSlot) (n : ℕ) → NotParked (waiter_at ws n) → waiter_at (wake_current t c ws) n ≡ waiter_at ws n
-unfolding wake_current
-ending_at t CurrentHead.Absent ws n p = refl
-ending_at t (CurrentHead.Unclaimed u) ws n p = refl
-ending_at t (CurrentHead.Preparing u) ws n p = wake_at t u.delivery.anchor ws n ∙ woken_same t _ (waiter_at ws n) p
-ending_at t (CurrentHead.Settled s) ws n p = refl
+  woken_none : (c now : CurrentHead) (ws : List WaiterSlot) → Ends t → is_preparing now ≡ false → Parks c ws → NoneParked (woken_waiters t c now ws)
+  unfolding woken_waiters publish
+  woken_none CurrentHead.Absent now ws h e k = k
+  woken_none (CurrentHead.Unclaimed u) now ws h e k = k
+  woken_none (CurrentHead.Preparing u) now ws h e k = rw e (wake_none _ u.delivery.anchor ws (ends_first u.attempt.end t h))
+  woken_none (CurrentHead.Settled s) now ws h e k = k
+
+  -- so none stays parked but on a preparation that goes on
+  pub woken_parks : (c now : CurrentHead) (ws : List WaiterSlot) → Ends t → Parks c ws → Parks now (woken_waiters t c now ws)
+  unfolding is_preparing
+  woken_parks c CurrentHead.Absent ws h k = woken_none c CurrentHead.Absent ws h refl k
+  woken_parks c (CurrentHead.Unclaimed u) ws h k = woken_none c (CurrentHead.Unclaimed u) ws h refl k
+  woken_parks c (CurrentHead.Preparing u) ws h k = tt
+  woken_parks c (CurrentHead.Settled s) ws h k = woken_none c (CurrentHead.Settled s) ws h refl k
+
+  pub woken_fit : (c now : CurrentHead) (ws : List WaiterSlot) → HeadFits c → WaitersFit ws → WaitersFit (woken_waiters t c now ws)
+  unfolding woken_waiters
+  woken_fit CurrentHead.Absent now ws f g = g
+  woken_fit (CurrentHead.Unclaimed u) now ws f g = g
+  woken_fit (CurrentHead.Preparing u) now ws f g = cond_both (is_preparing now) _ _ WaitersFit (λ e. g) (λ e. wake_fits _ u.delivery.anchor ws f.delivery.anchor g)
+  woken_fit (CurrentHead.Settled s) now ws f g = g
+
+  pub woken_at : (c now : CurrentHead) (ws : List WaiterSlot) (n : ℕ) → NotParked (waiter_at ws n) → waiter_at (woken_waiters t c now ws) n ≡ waiter_at ws n
+  unfolding woken_waiters
+  woken_at CurrentHead.Absent now ws n p = refl
+  woken_at (CurrentHead.Unclaimed u) now ws n p = refl
+  woken_at (CurrentHead.Preparing u) now ws n p = cond_both (is_preparing now) _ _ (λ (x : List WaiterSlot). waiter_at x n ≡ waiter_at ws n)
+      (λ e. refl)
+      (λ e. wake_at _ u.delivery.anchor ws n ∙ woken_same _ _ (waiter_at ws n) p)
+  woken_at (CurrentHead.Settled s) now ws n p = refl
 
 -- one of them
 
@@ -130,10 +159,10 @@ at_fits (w ∷ ws) (suc n) f = at_fits ws n f.1
 
 -- none of a new driver's
 
-pub free_none : (n : ℕ) → NoneParked (free n)
+pub free_none : (n : ℕ) → NoneParked (replicate n (slot_of Waiter.Free))
 free_none zero = tt
 free_none (suc n) = (tt, free_none n)
 
-pub free_fits : (n : ℕ) → WaitersFit (free n)
+pub free_fits : (n : ℕ) → WaitersFit (replicate n (slot_of Waiter.Free))
 free_fits zero = tt
 free_fits (suc n) = (tt, free_fits n)

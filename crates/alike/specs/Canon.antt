@@ -1,14 +1,14 @@
 -- Document 01, "The sheet": what of a driver its sheet shows. `canon d` is a driver that holds just this, and beside it only what this implies.
 use Rattle.head_ready.specs.declared.Generation.{Generation}
-use Rattle.std.specs.Prelude.{ℕ, Bool, true, false, List, [], ◌∷◌, Option, None, Some, cond, ◌&&◌}
-use Rattle.head_anchor.specs.Anchors.{holds}
+use Rattle.std.specs.Prelude.{ℕ, Bool, List, map, Option, None, Some, cond, ◌&&◌, ◌||◌}
+use Rattle.head_values.specs.Anchors.{holds}
 use Rattle.head_attempt.specs.Attempts.{minted, settled}
 use Rattle.head_count.specs.Counters.{epoch_of, seq_of}
 use Rattle.head_attempt.specs.Waiters.{slot_of}
-use Rattle.head_current.specs.Heads.{anchor_of, delivery}
-use Rattle.head_deliver.specs.Delivered.{delivery_of}
+use Rattle.head_current.specs.Heads.{anchor_of, delivery, is_settled}
+use Rattle.head_current.specs.Parts.{delivery_of}
 use Rattle.head_ready.specs.Generations.{slot_anchor}
-use Rattle.head_anchor.specs.declared.ReadAnchor.{ReadAnchor}
+use Rattle.head_values.specs.declared.ReadAnchor.{ReadAnchor}
 use Rattle.head_count.specs.declared.Epoch.{Epoch}
 use Rattle.head_attempt.specs.declared.Waiter.{Waiter}
 use Rattle.head_attempt.specs.declared.WaiterSlot.{WaiterSlot}
@@ -17,15 +17,9 @@ use Rattle.head_current.specs.declared.HeadDelivery.{HeadDelivery}
 use Rattle.head_driver.specs.declared.Driver.{Driver}
 use Rattle.head_life.specs.declared.HeadLifecycle.{HeadLifecycle}
 
-abbrev pub is_settled : CurrentHead → Bool
-is_settled CurrentHead.Absent = false
-is_settled (CurrentHead.Unclaimed u) = false
-is_settled (CurrentHead.Preparing u) = false
-is_settled (CurrentHead.Settled s) = true
-
 -- it is the current anchor, or the current head is settled and it is the previous anchor
 unfoldable pub masked : CurrentHead → Option Generation → ReadAnchor → Bool
-masked c previous a = cond (holds (anchor_of (delivery c)) a) true (is_settled c && holds (slot_anchor previous) a)
+masked c previous a = holds (anchor_of (delivery c)) a || (is_settled c && holds (slot_anchor previous) a)
 
 unfoldable pub mask_by : (ReadAnchor → Bool) → Option ReadAnchor → Option ReadAnchor
 mask_by hides None = None
@@ -59,8 +53,7 @@ shown_waiter (Waiter.Abandoned a) = Waiter.Abandoned a
 shown_waiter (Waiter.Ended a) = Waiter.Ended a
 
 unfoldable pub shown_waiters : List WaiterSlot → List WaiterSlot
-shown_waiters [] = []
-shown_waiters (s ∷ ss) = slot_of (shown_waiter s.waiter) ∷ shown_waiters ss
+shown_waiters ws = map (λ s. slot_of (shown_waiter s.waiter)) ws
 
 -- Count (eight counters, then epoch); current; superseded; installed; previous. Seq is not written: it is delivered.
 unfoldable pub shown_life : HeadLifecycle → HeadLifecycle

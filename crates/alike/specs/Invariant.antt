@@ -2,14 +2,14 @@
 -- more than this may be used of a driver.
 use Rattle.head_current.specs.declared.DeltaReport.{DeltaReport}
 use Rattle.std.specs.Prelude.{◌+◌, ◌≤◌, false, List, [], ◌∷◌, ◌≡◌, Option, None, Some, ◌&&◌}
-use Rattle.head_anchor.specs.Anchors.{holds}
-use Rattle.head_anchor.specs.Lists.{is_linked, is_read}
+use Rattle.head_values.specs.Anchors.{holds}
+use Rattle.head_values.specs.Lists.{is_linked, is_decoded}
 use Rattle.head_attempt.specs.Attempts.{minted}
 use Rattle.head_count.specs.Counters.{seq_of}
-use Rattle.head_current.specs.Heads.{delivery}
-use Rattle.head_report.specs.Reports.{current_report}
-use Rattle.head_ready.specs.Generations.{settled_readiness, slot_anchor}
-use Rattle.head_anchor.specs.declared.CarryOutcome.{CarryOutcome}
+use Rattle.head_current.specs.Heads.{delivery, current_report}
+use Rattle.head_life.specs.Apply.{settled_readiness}
+use Rattle.head_ready.specs.Generations.{slot_anchor}
+use Rattle.head_values.specs.declared.CarryOutcome.{CarryOutcome}
 use Rattle.head_attempt.specs.declared.HeadCompletion.{HeadCompletion}
 use Rattle.head_attempt.specs.declared.Waiter.{Waiter}
 use Rattle.head_attempt.specs.declared.WaiterSlot.{WaiterSlot}
@@ -84,7 +84,7 @@ FromApply (HeadReadiness.Cold HeadCold.Unprepared) = ⊥
 FromApply (HeadReadiness.Cold HeadCold.Superseded) = ⊥
 FromApply (HeadReadiness.Cold HeadCold.Undelivered) = ⊥
 FromApply (HeadReadiness.Cold HeadCold.Abandoned) = ⊥
-FromApply (HeadReadiness.Cold (HeadCold.Settled link skip)) = (is_linked link && is_read skip) ≡ false
+FromApply (HeadReadiness.Cold (HeadCold.Settled link skip)) = (is_linked link && is_decoded skip) ≡ false
 
 abbrev pub ReadinessIs : HeadReadiness → Option Generation → Type 0
 ReadinessIs r None = ⊥

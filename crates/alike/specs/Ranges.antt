@@ -5,7 +5,7 @@ use Rattle.head_attempt.specs.declared.WaiterSlot.{WaiterSlot}
 use Rattle.head_driver.specs.declared.Driver.{Driver}
 use Rattle.head_life.specs.declared.HeadLifecycle.{HeadLifecycle}
 use Rattle.hash.specs.Ranges.{Fits}
-use Rattle.head_anchor.specs.Ranges.{AnchorFits, SlotFits}
+use Rattle.head_values.specs.Ranges.{AnchorFits, SlotFits}
 use Rattle.head_current.specs.Ranges.{HeadFits}
 use Rattle.head_ready.specs.Ranges.{GenerationSlotFits}
 use Rattle.head_count.specs.Ranges.{StatsFit}

@@ -9,7 +9,7 @@ use Rattle.head_driver.specs.Answers.{outcome_said, said, stats_values}
 use Rattle.script_back.proofs.Counters.{spaced_back, spaced_run, stats_back}
 use Rattle.script_back.proofs.Outcomes.{end_back, link_back, outcome_back, readiness_back, report_back, source_back}
 use Rattle.value_text.proofs.Back.{anchor_back, slot_back}
-use Rattle.head_anchor.specs.Ranges.{AnchorFits, OutcomeFits, SlotFits}
+use Rattle.head_values.specs.Ranges.{AnchorFits, OutcomeFits, SlotFits}
 use Rattle.hash.specs.Ranges.{Fits}
 use Rattle.head_ready.specs.Ranges.{ReadinessFits}
 use Rattle.head_current.specs.Ranges.{ReportFits}
@@ -26,9 +26,9 @@ use Rattle.text.specs.Ascii.{ascii}
 use Rattle.text.specs.Rests.{Took, after, at, after_byte}
 use Rattle.text.specs.Same.{same_text}
 use Rattle.text.specs.Words.{in_word, run}
-use Rattle.head_anchor.specs.declared.CarryOutcome.{CarryOutcome}
-use Rattle.head_anchor.specs.declared.Link.{Link}
-use Rattle.head_anchor.specs.declared.ReadAnchor.{ReadAnchor}
+use Rattle.head_values.specs.declared.CarryOutcome.{CarryOutcome}
+use Rattle.head_values.specs.declared.Link.{Link}
+use Rattle.head_values.specs.declared.ReadAnchor.{ReadAnchor}
 use Rattle.head_attempt.specs.declared.HeadCompletion.{HeadCompletion}
 use Rattle.head_count.specs.declared.HeadStats.{HeadStats}
 use Rattle.head_driver.specs.declared.Answer.{Answer}
@@ -153,9 +153,9 @@ said_back (Answer.Stats s) f = stats_said s f
 said_back (Answer.Heads c i p) f =
     named (ascii "heads") (ascii " " ++ (slot_text Page.Line c ++ (ascii " " ++ (slot_text Page.Line i ++ (ascii " " ++ (slot_text Page.Line p ++ ascii ")\n")))))) refl refl
     ∙ heads_back c i p f.0 f.1 f.2
-said_back Answer.ListAtOdds f = number_refused 2 (ascii ")\n") _ (omega arith) refl refl
-said_back Answer.WaiterOutOfRange f = number_refused 3 (ascii ")\n") _ (omega arith) refl refl
-said_back Answer.WaiterTaken f = number_refused 15 (ascii ")\n") _ (omega arith) refl refl
+said_back Answer.ListDisagrees f = number_refused 2 (ascii ")\n") _ (omega arith) refl refl
+said_back Answer.WaiterAbove15 f = number_refused 3 (ascii ")\n") _ (omega arith) refl refl
+said_back Answer.WaiterNotFree f = number_refused 15 (ascii ")\n") _ (omega arith) refl refl
 said_back Answer.WaiterFree f = number_refused 16 (ascii ")\n") _ (omega arith) refl refl
 
 pub answer_back : ReadBack

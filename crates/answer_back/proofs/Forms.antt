@@ -3,7 +3,7 @@ use Prim.Native.Nat.{ℕ, zero, suc}
 use mathlib.Core.List.{List, [], ◌∷◌, ◌++◌, append_assoc}
 use mathlib.Core.Path.{◌≡◌, refl, ap, ◌∙◌}
 use lib.ListN.{length}
-use Rattle.head_anchor.specs.Values.{Value}
+use Rattle.head_values.specs.Values.{Value}
 use Rattle.head_driver.specs.Answers.{said}
 use Rattle.script_answer.specs.Answers.{answer_line}
 use Rattle.script_value.specs.Lines.{answer_text, refusal_on, said_text}

@@ -1,5 +1,5 @@
 -- Every number of an answer is one of 64 bits, and so is every word of its hashes.
-use Rattle.head_anchor.specs.Ranges.{AnchorFits, OutcomeFits, SlotFits}
+use Rattle.head_values.specs.Ranges.{AnchorFits, OutcomeFits, SlotFits}
 use Rattle.hash.specs.Ranges.{Fits}
 use Rattle.head_ready.specs.Ranges.{ReadinessFits}
 use Rattle.head_current.specs.Ranges.{ReportFits}
@@ -26,7 +26,7 @@ AnswerFits (Answer.Link link) = Unit {0}
 AnswerFits (Answer.Report r) = ReportFits r
 AnswerFits (Answer.Stats s) = StatsFit s
 AnswerFits (Answer.Heads current installed previous) = SlotFits current × SlotFits installed × SlotFits previous
-AnswerFits Answer.ListAtOdds = Unit {0}
-AnswerFits Answer.WaiterOutOfRange = Unit {0}
-AnswerFits Answer.WaiterTaken = Unit {0}
+AnswerFits Answer.ListDisagrees = Unit {0}
+AnswerFits Answer.WaiterAbove15 = Unit {0}
+AnswerFits Answer.WaiterNotFree = Unit {0}
 AnswerFits Answer.WaiterFree = Unit {0}

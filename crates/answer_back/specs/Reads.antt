@@ -1,6 +1,6 @@
 -- Reading an answer's line.
 use Rattle.std.specs.Prelude.{ℕ, List, eqb, cond}
-use Rattle.head_anchor.specs.Words.{Word}
+use Rattle.head_values.specs.Words.{Word}
 use Rattle.head_count.specs.Counters.{epoch_of, seq_of}
 use Rattle.script_back.specs.Counters.{read_stats}
 use Rattle.script_back.specs.Outcomes.{read_end, read_link, read_outcome, read_readiness, read_report, read_source}
@@ -9,8 +9,8 @@ use Rattle.value_text.specs.Words.{word_text}
 use Rattle.text.specs.Ascii.{ascii}
 use Rattle.text.specs.Rests.{Rest, Took, after, past_word, stopped, word_here}
 use Rattle.text.specs.Same.{same_text}
-use Rattle.head_anchor.specs.declared.CarryOutcome.{CarryOutcome}
-use Rattle.head_anchor.specs.declared.ReadAnchor.{ReadAnchor}
+use Rattle.head_values.specs.declared.CarryOutcome.{CarryOutcome}
+use Rattle.head_values.specs.declared.ReadAnchor.{ReadAnchor}
 use Rattle.head_driver.specs.declared.Answer.{Answer}
 use Rattle.head_ready.specs.declared.HeadOutcome.{HeadOutcome}
 use Rattle.value_text.specs.declared.page.Page.{Page}
@@ -47,13 +47,13 @@ settled_by o = Answer.Outcome (HeadOutcome.Settled o)
 
 unfoldable pub refused_by : ℕ → Rest → Took Answer
 refused_by n r =
-    cond (eqb n 2) (got Answer.ListAtOdds r)
-    (cond (eqb n 3) (got Answer.WaiterOutOfRange r)
+    cond (eqb n 2) (got Answer.ListDisagrees r)
+    (cond (eqb n 3) (got Answer.WaiterAbove15 r)
     (cond (eqb n 11) (map superseded_by (read_anchor Page.Line (after (ascii " ") r)))
     (cond (eqb n 12) (read_foreign r)
     (cond (eqb n 13) (got (Answer.Outcome HeadOutcome.AlreadySettled) r)
     (cond (eqb n 14) (got (Answer.Outcome HeadOutcome.InFlight) r)
-    (cond (eqb n 15) (got Answer.WaiterTaken r)
+    (cond (eqb n 15) (got Answer.WaiterNotFree r)
     (cond (eqb n 16) (got Answer.WaiterFree r)
     (got Answer.Done stopped))))))))
 

@@ -1,42 +1,34 @@
 -- One name that opens every definition on the way from the bytes of a line to the bytes of its answer, for claims by computation.
 use Rattle.hash.specs.Hashes
-use Rattle.head_anchor.specs.Anchors
-use Rattle.head_anchor.specs.Links
-use Rattle.head_anchor.specs.Lists
-use Rattle.head_anchor.specs.Values as AnchorValues
+use Rattle.head_values.specs.Anchors
+use Rattle.head_values.specs.Links
+use Rattle.head_values.specs.Lists
+use Rattle.head_values.specs.Values as AnchorValues
 use Rattle.head_count.specs.Counters
 use Rattle.head_attempt.specs.Attempts
 use Rattle.head_attempt.specs.Waiters
-use Rattle.head_current.specs.Heads
 use Rattle.head_ready.specs.Generations
+use Rattle.head_current.specs.Heads
+use Rattle.head_current.specs.Moves as HeadMoves
 use Rattle.head_life.specs.State
+use Rattle.head_life.specs.Deliver as DeliverLife
+use Rattle.head_life.specs.Claim as ClaimLife
+use Rattle.head_life.specs.Release as ReleaseLife
+use Rattle.head_life.specs.Apply as ApplyLife
+use Rattle.head_life.specs.Views
+use Rattle.head_life.specs.Completion
 use Rattle.head_driver.specs.Answers as Said
+use Rattle.head_driver.specs.Moved
 use Rattle.head_driver.specs.New
 use Rattle.head_driver.specs.Parts as DriverParts
-use Rattle.head_deliver.specs.Deliver
-use Rattle.head_deliver.specs.Delivered
-use Rattle.head_deliver.specs.Repeats
-use Rattle.head_claim.specs.Claim
-use Rattle.head_claim.specs.Claimed
-use Rattle.head_claim.specs.Starts
-use Rattle.head_release.specs.Owners
-use Rattle.head_release.specs.Release
-use Rattle.head_release.specs.Released
-use Rattle.head_plan.specs.Plans
-use Rattle.head_settle.specs.Settles
-use Rattle.head_apply.specs.Apply
-use Rattle.head_snapshot.specs.Snapshot
-use Rattle.head_view.specs.Views
-use Rattle.head_waits.specs.Calls as WaitCalls
-use Rattle.head_completion.specs.Completion
-use Rattle.head_completion.specs.Ends
-use Rattle.head_link.specs.Link
-use Rattle.head_report.specs.Report
-use Rattle.head_report.specs.Reports
-use Rattle.head_stats.specs.Stats
-use Rattle.head_heads.specs.Heads as HeadsCall
-use Rattle.head_call.specs.Inputs
-use Rattle.head_step.specs.Dispatch
+use Rattle.head_calls.specs.Deliver
+use Rattle.head_calls.specs.Claim
+use Rattle.head_calls.specs.Release
+use Rattle.head_calls.specs.Apply
+use Rattle.head_waits.specs.Parts as WaiterParts
+use Rattle.head_waits.specs.Snapshot
+use Rattle.head_waits.specs.Waits
+use Rattle.head_asks.specs.Asks
 use Rattle.head_step.specs.Steps
 use Rattle.text.specs.Decimals
 use Rattle.text.specs.Digits
@@ -64,33 +56,32 @@ use Rattle.script_sheet.specs.Sheets
 -- anchors, links and lists
 unfoldable anchors : Unit {0}
 unfolding Hashes.same_hash Anchors.same_anchor Anchors.holds Links.follows Links.link_by_hash Links.classify_link Lists.is_no_hash
-    Lists.as_prepared Lists.is_linked Lists.is_read Lists.outcome Lists.apply_prepared AnchorValues.block_hash_value AnchorValues.anchor_value AnchorValues.slot_value
+    Lists.as_prepared Lists.is_linked Lists.is_decoded Lists.outcome Lists.apply_prepared AnchorValues.block_hash_value AnchorValues.anchor_value AnchorValues.slot_value
     AnchorValues.link_value AnchorValues.fault_value AnchorValues.skip_value AnchorValues.outcome_value
 anchors = tt
 
 -- counters, attempts, waiters and the current head
 unfoldable heads : Unit {0}
-unfolding Attempts.minted Attempts.settled Attempts.first_end Attempts.publish Counters.up Counters.next_seq Counters.next_epoch Counters.same_seq Counters.same_epoch
-    Counters.none_counted Counters.raise Counters.record_view Waiters.woken Waiters.wake Heads.delivery Heads.anchor_of Repeats.same_delivery Repeats.repeat_of
-    Repeats.repeats Heads.ticket_of Ends.published Delivered.unsettled WaitCalls.preparing_at Reports.current_report Claimed.claimed_head Owners.owns Owners.owned_by
-    Released.released_head Settles.abandonment Settles.settling_epoch Settles.settled_head DriverParts.wake_current
+unfolding Counters.up Counters.next_seq Counters.next_epoch Counters.same_seq Counters.same_epoch Counters.none_counted Counters.raise Counters.raise_if
+    Counters.record_view Attempts.minted Attempts.settled Attempts.first_end Attempts.publish Waiters.woken Waiters.wake Heads.delivery Heads.anchor_of
+    Heads.has_ticket Heads.is_unsettled Heads.is_preparing Heads.is_settled Heads.preparing_at Heads.published Heads.current_report HeadMoves.claimed_head
+    HeadMoves.owned_by HeadMoves.released_head HeadMoves.is_abandoned HeadMoves.published_abandonment HeadMoves.settled_head
 heads = tt
 
 -- the lifecycle and what is read of it
 unfoldable life : Unit {0}
-unfolding Plans.plan_held Plans.plan_apply Settles.settle Starts.claim_gate Starts.claim_start Claimed.claimed Released.released Delivered.replaced
-    Delivered.count_replaced Delivered.count_delivery Delivered.new_head Delivered.delivered Generations.slot_anchor Generations.settled_readiness Generations.is_ready
-    Generations.previous_after State.no_head State.counted State.view_counted Ends.end_at Views.generation_view Views.provisional_view Views.current_view Views.spare_reason
-    Views.spare_view Views.view
+unfolding Generations.slot_anchor Generations.is_ready State.no_head State.counted State.view_counted DeliverLife.repeats DeliverLife.old_seq DeliverLife.new_head
+    DeliverLife.deliver_life ClaimLife.claim_held ClaimLife.claim_life ReleaseLife.release_life ApplyLife.plan_held ApplyLife.plan_apply ApplyLife.previous_after
+    ApplyLife.settled_readiness ApplyLife.settling_epoch ApplyLife.record_settle Views.generation_view Views.provisional_view Views.current_view Views.spare_view
+    Views.view Completion.completion_at
 life = tt
 
 -- the calls
 unfoldable calls : Unit {0}
-unfolding Said.readiness_value Said.source_value Said.end_value Said.report_value Said.stats_values Said.outcome_said Said.said Deliver.deliver Claim.claim Release.release
-    Snapshot.snapshot DriverParts.with_life Deliver.deliver_as Claim.claim_as Snapshot.viewed Apply.apply Apply.settle_as Apply.apply_as WaitCalls.wait
-    WaitCalls.resume WaitCalls.unowned_reason WaitCalls.unowned_readiness WaitCalls.unowned WaitCalls.abandoned_view WaitCalls.waiter_at WaitCalls.put WaitCalls.viewed_by
-    WaitCalls.join WaitCalls.wait_as WaitCalls.resume_as New.new Completion.completion Link.link Report.report Stats.stats HeadsCall.heads Inputs.list_refusal
-    Inputs.waiter_refusal Dispatch.dispatch Inputs.input_number Inputs.input_refusal Steps.step
+unfolding Said.readiness_value Said.source_value Said.end_value Said.report_value Said.stats_values Said.outcome_said Said.said Moved.woken_waiters Moved.moved New.new
+    DriverParts.with_life Deliver.deliver Claim.claim_answer Claim.claim Release.release Apply.apply_settled Apply.apply_planned Apply.apply Snapshot.viewed
+    Snapshot.snapshot WaiterParts.waiter_at WaiterParts.put Waits.readiness_by_wait Waits.shown_by_wait Waits.view_frees Waits.waits_anew Waits.abandoned_view
+    Waits.wait_as Waits.wait Waits.resume_as Waits.resume Asks.completion Asks.link Asks.report Asks.stats Asks.heads Steps.step
 calls = tt
 
 -- words, decimals and hashes

@@ -1,10 +1,10 @@
--- Document 01, "Lifecycle": an attempt has an epoch and at most one end: settled, superseded or abandoned. The first end stays.
--- The Rust: `ClaimAttempt`, of head_lifecycle.rs.
+-- Document 01, "Lifecycle": "An attempt has an epoch and at most one end: settled, superseded
+-- or abandoned. The first end stays." The Rust: `ClaimAttempt`, of head_lifecycle.rs.
 use Rattle.head_attempt.specs.declared.ClaimAttempt.{ClaimAttempt}
 use Rattle.head_attempt.specs.declared.HeadCompletion.{HeadCompletion}
 use Rattle.head_count.specs.declared.Epoch.{Epoch}
 
--- a new open attempt: `ClaimAttempt::minted`
+-- a new open attempt: `ClaimAttempt::minted`, and at epoch 0 `ClaimAttempt::delivered`
 unfoldable pub minted : Epoch → ClaimAttempt
 minted e = record { epoch = e; end = HeadCompletion.Open }
 
@@ -12,6 +12,7 @@ minted e = record { epoch = e; end = HeadCompletion.Open }
 unfoldable pub settled : Epoch → ClaimAttempt
 settled e = record { epoch = e; end = HeadCompletion.Settled }
 
+-- "The first end stays."
 unfoldable pub first_end : HeadCompletion → HeadCompletion → HeadCompletion
 first_end HeadCompletion.Open later = later
 first_end HeadCompletion.Settled later = HeadCompletion.Settled

@@ -1,9 +1,11 @@
-// From head_lifecycle.rs: the methods of `ClaimAttempt`.
+// From head_lifecycle.rs: the methods of `ClaimAttempt`, and what its `watch` channel does for those who wait.
 ghost use Rattle.std.specs.Prelude.{◌≡◌};
 ghost use Rattle.head_attempt.specs.Attempts.{first_end, minted, publish, settled};
+ghost use Rattle.head_attempt.specs.Waiters.{wake, woken};
 
-use crate::{ClaimAttempt, HeadCompletion};
+use crate::{ClaimAttempt, HeadCompletion, Waiter, WaiterSlot};
 use head_count::Epoch;
+use head_values::ReadAnchor;
 
 // The first end stays.
 #[tactic(auto, unfolding(crate::specs::Attempts::first_end))]
@@ -47,4 +49,35 @@ impl ClaimAttempt {
             ..self
         }
     }
+}
+
+impl Waiter {
+    // What becomes of a waiter when the preparation at that anchor ends so.
+    #[tactic(auto, unfolding(crate::specs::Waiters::woken))]
+    pub(crate) fn woken(self, end: HeadCompletion, anchor: ReadAnchor) -> Waiter
+        ensures { result ≡ woken end anchor self }
+    {
+        match self {
+            Waiter::Parked => match end {
+                HeadCompletion::Open => Waiter::Parked,
+                HeadCompletion::Settled | HeadCompletion::Superseded => Waiter::Ended(anchor),
+                HeadCompletion::Abandoned => Waiter::Abandoned(anchor),
+            },
+            Waiter::Free | Waiter::Abandoned(_) | Waiter::Ended(_) => self,
+        }
+    }
+}
+
+// The preparation at that anchor has ended, and so has the wait of everyone parked on it.
+pub fn wake(
+    end: HeadCompletion,
+    anchor: ReadAnchor,
+    mut waiters: [WaiterSlot; 16],
+) -> [WaiterSlot; 16]
+    ensures { result ≡ wake end anchor waiters }
+{
+    for slot in &mut waiters {
+        slot.waiter = slot.waiter.woken(end, anchor);
+    }
+    waiters
 }

@@ -1,9 +1,9 @@
 // An attempt to prepare a head and its one end, and the waiters that the end wakes.
-// Knows nothing of heads.
+// Knows nothing of heads, nor of which calls end an attempt.
 #![tactic(auto)]
 
-use head_anchor::ReadAnchor;
 use head_count::Epoch;
+use head_values::ReadAnchor;
 
 pub mod head_lifecycle;
 

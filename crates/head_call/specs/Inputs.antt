@@ -1,25 +1,26 @@
--- Document 01, "Turned away by the input": 2, list and anchor disagree on `no-hash`, is tested by `apply` only; 3, waiter number above 15, by `wait` and `resume` only. (1 and 4 are
--- of lines and of the sheet's buffer.)
-use Rattle.std.specs.Prelude.{ℕ, ltb, cond, Option, None, Some}
-use Rattle.head_anchor.specs.Lists.{as_prepared}
-use Rattle.head_anchor.specs.declared.PreparedBal.{PreparedBal}
+-- Document 01, "Turned away by the input", as a function of the call alone: "Apply tests 2, ..", "Wait tests 3, ..; resume 3, ..". (1 and 4
+-- are of lines and of the sheet's buffer.) That this is what `step` answers is a law: `head_step/specs/Statements`.
+use Rattle.std.specs.Prelude.{ℕ, ltb, cond, not, Option, None, Some}
+use Rattle.head_values.specs.Lists.{as_prepared}
+use Rattle.head_values.specs.declared.PreparedBal.{PreparedBal}
 use Rattle.head_call.specs.declared.Call.{Call}
 use Rattle.head_call.specs.declared.InputRefusal.{InputRefusal}
 
 -- 0 where the input is taken
 unfoldable pub input_number : Option InputRefusal → ℕ
 input_number None = 0
-input_number (Some InputRefusal.ListAtOdds) = 2
-input_number (Some InputRefusal.WaiterOutOfRange) = 3
+input_number (Some InputRefusal.ListDisagrees) = 2
+input_number (Some InputRefusal.WaiterAbove15) = 3
 
--- 2 list and anchor disagree on `no-hash`
+-- "2 list and anchor disagree on `no-hash`"
 unfoldable pub list_refusal : PreparedBal → Option InputRefusal
-list_refusal list = cond (as_prepared list) None (Some InputRefusal.ListAtOdds)
+list_refusal list = cond (not (as_prepared list)) (Some InputRefusal.ListDisagrees) None
 
--- 3 waiter number above 15
+-- "3 waiter number above 15"
 unfoldable pub waiter_refusal : ℕ → Option InputRefusal
-waiter_refusal n = cond (ltb n 16) None (Some InputRefusal.WaiterOutOfRange)
+waiter_refusal n = cond (ltb 15 n) (Some InputRefusal.WaiterAbove15) None
 
+-- the calls in demand 3's order
 unfoldable pub input_refusal : Call → Option InputRefusal
 input_refusal (Call.Deliver a p cold) = None
 input_refusal (Call.Claim ticket) = None

@@ -1,10 +1,10 @@
-// Which calls their input alone turns away. The Rust has a method for each call, and such input cannot be made there.
+// Which calls their input alone turns away. In the Rust most calls are methods, and such input cannot be made there.
 ghost use Rattle.std.specs.Prelude.{◌≡◌, None, Some};
 ghost use Rattle.head_call.specs.Inputs.{input_number, input_refusal, list_refusal, waiter_refusal};
 
 use crate::{Call, InputRefusal};
-use head_anchor::PreparedBal;
-use head_carry::read_hub::as_prepared;
+use head_values::PreparedBal;
+use head_values::read_hub::as_prepared;
 
 // The refusal's number, or 0 where the input is taken: document 01's numbers, which a host is told.
 #[tactic(auto, unfolding(crate::specs::Inputs::input_number))]
@@ -13,8 +13,8 @@ pub fn input_number(refusal: Option<InputRefusal>) -> u64
 {
     match refusal {
         None => 0,
-        Some(InputRefusal::ListAtOdds) => 2,
-        Some(InputRefusal::WaiterOutOfRange) => 3,
+        Some(InputRefusal::ListDisagrees) => 2,
+        Some(InputRefusal::WaiterAbove15) => 3,
     }
 }
 
@@ -22,14 +22,14 @@ pub fn input_number(refusal: Option<InputRefusal>) -> u64
 pub(crate) fn list_refusal(list: PreparedBal) -> Option<InputRefusal>
     ensures { result ≡ list_refusal list }
 {
-    (!as_prepared(list)).then_some(InputRefusal::ListAtOdds)
+    (!as_prepared(list)).then_some(InputRefusal::ListDisagrees)
 }
 
 #[tactic(auto, unfolding(crate::specs::Inputs::waiter_refusal))]
 pub(crate) fn waiter_refusal(n: u64) -> Option<InputRefusal>
     ensures { result ≡ waiter_refusal n }
 {
-    (n >= 16).then_some(InputRefusal::WaiterOutOfRange)
+    (n > 15).then_some(InputRefusal::WaiterAbove15)
 }
 
 // Asked before the state is looked at.

@@ -3,8 +3,8 @@
 #![tactic(auto)]
 
 use hash::Hash;
-use head_anchor::{PreparedBal, ReadAnchor};
 use head_current::{HeadTicket, PrepareClaim};
+use head_values::{PreparedBal, ReadAnchor};
 
 pub mod head_lifecycle;
 
@@ -28,6 +28,6 @@ pub enum Call {
 // Why a call is turned away by its input alone: the two kinds, each a refusal.
 #[derive(Clone, Copy)]
 pub enum InputRefusal {
-    ListAtOdds,
-    WaiterOutOfRange,
+    ListDisagrees,
+    WaiterAbove15,
 }

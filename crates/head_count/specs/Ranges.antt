@@ -4,4 +4,5 @@ use Rattle.head_count.specs.declared.HeadStats.{HeadStats}
 
 -- the eight counters, in document 01's order
 abbrev pub StatsFit : HeadStats → Type 0
-StatsFit s = Fits s.delivered × Fits s.repeated × Fits s.superseded × Fits s.settled × Fits s.already_current × Fits s.discarded × Fits s.ready_views × Fits s.cold_views
+StatsFit s = Fits s.delivered × Fits s.repeated × Fits s.superseded × Fits s.settled
+    × Fits s.already_current × Fits s.discarded × Fits s.ready_views × Fits s.cold_views

@@ -1,6 +1,6 @@
-// From head_lifecycle.rs: delivery numbers, epochs and counters rise, and saturate.
+// From head_lifecycle.rs: delivery numbers, epochs and counters rise, and saturate; the count of a view.
 ghost use Rattle.std.specs.Prelude.{◌≡◌};
-ghost use Rattle.head_count.specs.Counters.{next_epoch, next_seq, raise, up};
+ghost use Rattle.head_count.specs.Counters.{next_epoch, next_seq, raise, raise_if, record_view, up};
 
 use crate::{Counter, Epoch, HeadStats, Seq};
 
@@ -47,5 +47,24 @@ impl HeadStats {
             Counter::ColdViews => self.cold_views = raised(self.cold_views),
         }
         self
+    }
+
+    #[tactic(auto, unfolding(crate::specs::Counters::raise_if))]
+    pub fn raise_if(self, test: bool, counter: Counter) -> HeadStats
+        ensures { result ≡ raise_if test counter self }
+    {
+        if test { self.raise(counter) } else { self }
+    }
+}
+
+// A view was answered, ready or cold: the counter rises behind the reference. The Rust's `HeadLifecycle::record_view`.
+#[tactic(auto, unfolding(crate::specs::Counters::record_view, crate::specs::Counters::raise))]
+pub fn record_view(stats: &mut HeadStats, ready: bool)
+    ensures { stats.new ≡ record_view ready stats.old }
+{
+    if ready {
+        stats.ready_views = raised(stats.ready_views);
+    } else {
+        stats.cold_views = raised(stats.cold_views);
     }
 }

@@ -1,4 +1,6 @@
--- Document 01, "Lifecycle": the current head. Heads are the paper's; Parts are what the moves are made of; Ranges are what the theorems speak of.
+-- Document 01, "Lifecycle": the current head. Heads and Moves are the paper's; Parts are for contracts and proofs;
+-- Ranges are what the theorems speak of.
 pub mod Heads
+pub mod Moves
 pub mod Parts
 pub mod Ranges

@@ -1,13 +1,13 @@
-// The driver: the lifecycle with the sixteen waiters, what it answers, and the reply that every call gives.
+// The driver: the lifecycle with the sixteen waiters, a new one, the end of a preparation, what a call answers, and the reply that it gives.
 // Knows nothing of the calls, nor of lines.
 #![tactic(auto)]
 
-use head_anchor::{Link, ReadAnchor};
 use head_attempt::{HeadCompletion, WaiterSlot};
 use head_count::{Epoch, HeadStats, Seq};
 use head_current::DeltaReport;
 use head_life::HeadLifecycle;
 use head_ready::{HeadOutcome, HeadView};
+use head_values::{Link, ReadAnchor};
 
 pub mod head_lifecycle;
 
@@ -32,9 +32,9 @@ pub enum Answer {
     Report(Option<DeltaReport>),
     Stats(HeadStats),
     Heads(Option<ReadAnchor>, Option<ReadAnchor>, Option<ReadAnchor>),
-    ListAtOdds,
-    WaiterOutOfRange,
-    WaiterTaken,
+    ListDisagrees,
+    WaiterAbove15,
+    WaiterNotFree,
     WaiterFree,
 }
 

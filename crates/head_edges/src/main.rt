@@ -7,13 +7,12 @@ ghost use Rattle.head_step.specs.Steps.{step};
 
 use driver::{LineAnswer, put_line};
 use hash::Hash;
-use head_anchor::{BalSkip, PreparedBal, ReadAnchor};
 use head_call::Call;
 use head_count::{Epoch, Seq};
 use head_current::{HeadTicket, PrepareClaim};
 use head_driver::{Answer, Driver};
-use head_new::head_lifecycle::new;
 use head_step::head_lifecycle::step;
+use head_values::{BalSkip, PreparedBal, ReadAnchor};
 use std::io::{self, Write};
 
 // Prints an answer's line and gives its number.
@@ -100,7 +99,7 @@ fn links(rt: &impl Print, d: Driver) -> Driver
 }
 
 fn main(rt: HostRuntime) {
-    let mut d = links(&rt, new());
+    let mut d = links(&rt, Driver::new());
     // E5, E6: a new driver, claim and apply.
     d = play(&rt, d, Call::Claim(ticket(bare(7), Seq(1))));
     d = play(&rt, d, Call::Stats);
@@ -117,11 +116,11 @@ fn main(rt: HostRuntime) {
     );
     d = play(&rt, d, Call::Stats);
     // E7: the same anchor under another parent hash.
-    d = play(&rt, new(), Call::Deliver(bare(7), hash_of(0), 50));
+    d = play(&rt, Driver::new(), Call::Deliver(bare(7), hash_of(0), 50));
     d = play(&rt, d, Call::Deliver(bare(7), hash_of(1), 51));
     d = play(&rt, d, Call::Stats);
     // E8: under the same.
-    d = play(&rt, new(), Call::Deliver(bare(7), hash_of(0), 50));
+    d = play(&rt, Driver::new(), Call::Deliver(bare(7), hash_of(0), 50));
     d = play(&rt, d, Call::Deliver(bare(7), hash_of(0), 51));
     d = play(&rt, d, Call::Stats);
     // E9: release with epoch 2 against 1; the head is preparing still.
@@ -129,10 +128,10 @@ fn main(rt: HostRuntime) {
     d = play(&rt, d, Call::Release(owner(Seq(1), Epoch(2))));
     d = play(&rt, d, Call::Claim(ticket(bare(7), Seq(1))));
     // E10: waiter 15 is accepted, 16 refused 3.
-    d = play(&rt, new(), Call::Wait(15, bare(7), 51));
+    d = play(&rt, Driver::new(), Call::Wait(15, bare(7), 51));
     d = play(&rt, d, Call::Wait(16, bare(7), 51));
     // E12: abandoned, then a carried retry, then resume.
-    d = play(&rt, new(), Call::Deliver(known(1), hash_of(0), 50));
+    d = play(&rt, Driver::new(), Call::Deliver(known(1), hash_of(0), 50));
     d = play(
         &rt,
         d,

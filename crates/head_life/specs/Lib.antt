@@ -1,2 +1,9 @@
--- Document 01, "Lifecycle": the lifecycle's state. All of it is the paper's.
+-- Document 01, "Lifecycle" and "Turned away by the state": what a call makes of the lifecycle, one file a call, each
+-- with the small words that its sentences are written with.
 pub mod State
+pub mod Deliver
+pub mod Claim
+pub mod Release
+pub mod Apply
+pub mod Views
+pub mod Completion

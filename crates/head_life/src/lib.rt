@@ -1,11 +1,11 @@
-// The head lifecycle: the current head, what is installed, what was installed before it, and the counters.
-// Knows nothing of the calls that move it, of waiters, of answers or of lines.
+// The head lifecycle: the current head, what is installed, what was installed before it, and the counters; and what a call makes of them.
+// Knows nothing of waiters, of answers or of lines.
 #![tactic(auto)]
 
-use head_anchor::ReadAnchor;
 use head_count::{Epoch, HeadStats, Seq};
-use head_current::CurrentHead;
-use head_ready::Generation;
+use head_current::{CurrentHead, HeadDelivery};
+use head_ready::{Generation, HeadOutcome};
+use head_values::ReadAnchor;
 
 pub mod head_lifecycle;
 
@@ -20,4 +20,11 @@ pub struct HeadLifecycle {
     pub seq: Seq,
     pub claim_epoch: Epoch,
     pub stats: HeadStats,
+}
+
+// What an apply goes on with: the head's own delivery, or the answer that turns it away.
+#[derive(Clone, Copy)]
+pub enum ApplyPlan {
+    Refused(HeadOutcome),
+    Admitted(HeadDelivery),
 }

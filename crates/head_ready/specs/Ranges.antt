@@ -1,7 +1,7 @@
 -- Every number of a value is one of 64 bits. The types of a theorem do not say so: there a number has no limit.
 use Rattle.std.specs.Prelude.{Option, None, Some}
 use Rattle.hash.specs.Ranges.{Fits}
-use Rattle.head_anchor.specs.Ranges.{AnchorFits, SkipFits}
+use Rattle.head_values.specs.Ranges.{AnchorFits, SkipFits}
 use Rattle.head_ready.specs.declared.Generation.{Generation}
 use Rattle.head_ready.specs.declared.HeadCold.{HeadCold}
 use Rattle.head_ready.specs.declared.HeadReadiness.{HeadReadiness}

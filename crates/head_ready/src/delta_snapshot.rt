@@ -3,7 +3,7 @@ ghost use Rattle.std.specs.Prelude.{◌≡◌};
 ghost use Rattle.head_ready.specs.Generations.{slot_anchor};
 
 use crate::Generation;
-use head_anchor::ReadAnchor;
+use head_values::ReadAnchor;
 
 // The Rust's `DeltaSnapshotCache::anchor`.
 #[tactic(auto, unfolding(crate::specs::Generations::slot_anchor))]

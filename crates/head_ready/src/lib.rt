@@ -2,13 +2,13 @@
 // Knows nothing of the current head, of the counters or of waiters.
 #![tactic(auto)]
 
-use head_anchor::{BalSkip, CarryOutcome, Link, ReadAnchor};
+use head_values::{BalSkip, CarryOutcome, Link, ReadAnchor};
 
 pub mod delta_snapshot;
 pub mod head_lifecycle;
 
 // From delta_snapshot.rs. One generation stands for the cache's slot and for head_lifecycle.rs's `InstalledGeneration` and `PreviousGeneration`, since only an
-// apply writes them.
+// apply makes one.
 
 // `handle` names the host's hub.
 #[derive(Clone, Copy)]

@@ -1,3 +1,3 @@
--- Document 01: every call. Steps is the paper's; Dispatch is what it is made of.
-pub mod Dispatch
+-- Document 01: every call. Steps is the paper's; Statements are what is proved of it.
 pub mod Steps
+pub mod Statements

@@ -1,18 +1,26 @@
--- Demand 2's step definition: every call, in demand 3's order. A call that its input turns away changes nothing; any other does what its definition says.
-use Rattle.std.specs.Prelude.{Option, None, Some}
-use Rattle.head_call.specs.Inputs.{input_refusal}
-use Rattle.head_driver.specs.Parts.{reply_of}
-use Rattle.head_step.specs.Dispatch.{dispatch}
+-- Demand 2's step definition: the choice of the call, in demand 3's order, and nothing else.
 use Rattle.head_call.specs.declared.Call.{Call}
-use Rattle.head_call.specs.declared.InputRefusal.{InputRefusal}
-use Rattle.head_driver.specs.declared.Answer.{Answer}
 use Rattle.head_driver.specs.declared.Driver.{Driver}
 use Rattle.head_driver.specs.declared.Reply.{Reply}
+use Rattle.head_calls.specs.Apply.{apply}
+use Rattle.head_calls.specs.Claim.{claim}
+use Rattle.head_calls.specs.Deliver.{deliver}
+use Rattle.head_calls.specs.Release.{release}
+use Rattle.head_waits.specs.Snapshot.{snapshot}
+use Rattle.head_waits.specs.Waits.{resume, wait}
+use Rattle.head_asks.specs.Asks.{completion, heads, link, report, stats}
 
-abbrev pub step_past : Option InputRefusal → Driver → Call → Reply
-step_past None d call = dispatch d call
-step_past (Some InputRefusal.ListAtOdds) d call = reply_of d Answer.ListAtOdds
-step_past (Some InputRefusal.WaiterOutOfRange) d call = reply_of d Answer.WaiterOutOfRange
-
+-- each call by its definition; most are methods of `BalHeadDriver`
 unfoldable pub step : Driver → Call → Reply
-step d call = step_past (input_refusal call) d call
+step d (Call.Deliver a p cold) = deliver d a p cold
+step d (Call.Claim ticket) = claim d ticket
+step d (Call.Release owner) = release d owner
+step d (Call.Apply ticket list handle carried report) = apply d ticket list handle carried report
+step d (Call.Snapshot a spare) = snapshot d a spare
+step d (Call.Wait n a spare) = wait d n a spare
+step d (Call.Resume n spare) = resume d n spare
+step d (Call.Completion a) = completion d a
+step d (Call.Link parent child parent_hash) = link d parent child parent_hash
+step d Call.Report = report d
+step d Call.Stats = stats d
+step d Call.Heads = heads d

@@ -1,2 +1,4 @@
--- Document 01, "The sixteen waiters": `wait` and `resume`. All of it is the paper's.
-pub mod Calls
+-- Document 01, "Lifecycle": `snapshot`; "The sixteen waiters": `wait` and `resume`. Parts are how the sixteen are read and written.
+pub mod Parts
+pub mod Snapshot
+pub mod Waits

@@ -7,7 +7,6 @@ ghost use Rattle.script.specs.Feeds.{reading};
 ghost use Rattle.headscript.specs.Reads.{AnswersAll, AnswersSome, MovesOn};
 
 use head_driver::Driver;
-use head_new::head_lifecycle::new;
 use script::{Fed, feed, finish};
 use std::io::{self, Read, Write};
 
@@ -79,7 +78,7 @@ fn main(rt: HostRuntime) {
     let mut reader = rt.reader();
     let mut pending = [0u8; 513];
     let mut now = Fed {
-        driver: new(),
+        driver: Driver::new(),
         held: 0,
         taken: 0,
         written: 0,

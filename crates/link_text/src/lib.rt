@@ -5,11 +5,11 @@
 ghost use Rattle.value_text.specs.Texts.{fault_text};
 ghost use Rattle.text_put.specs.Writers.{Puts, Room};
 
-use head_anchor::Link;
+use head_values::Link;
 use text_put::TextWriter;
 
 // Puts what is wrong with a link, or `none`.
-#[tactic(auto, unfolding(value_text::specs::Texts::fault_text, head_anchor::specs::Values::fault_value, value_text::specs::Values::value_text, value_text::specs::Words::word_text))]
+#[tactic(auto, unfolding(value_text::specs::Texts::fault_text, head_values::specs::Values::fault_value, value_text::specs::Values::value_text, value_text::specs::Words::word_text))]
 pub fn put_fault(out: &mut TextWriter<'_>, link: Link)
     requires { Room out.old 15 }
     ensures { Puts out.old out.new 15 (fault_text link) }

@@ -1,7 +1,7 @@
 -- Document 01, "Lifecycle": if the anchor is installed, installed readiness is kept.
 use Rattle.std.specs.Prelude.{ℕ, ◌≡◌, Some}
 use Rattle.head_step.specs.Steps.{step}
-use Rattle.head_view.specs.Views.{view_of}
+use Rattle.head_life.specs.Views.{view_of}
 use Rattle.hash.specs.declared.Hash.{Hash}
 use Rattle.head_driver.specs.declared.Answer.{Answer}
 use Rattle.head_driver.specs.declared.Driver.{Driver}

@@ -1,11 +1,12 @@
 -- A recording's lines: a run begins, an answer's line is collected, a call is made and its answer compared.
-use Rattle.std.specs.Prelude.{ℕ, ◌+◌, ◌-◌, ◌≤◌, ◌<◌, Bool, List, [], ◌∷◌, ◌++◌, ◌≡◌, eqb, leb, length, take, drop, None, cond, ◌&&◌}
+use Rattle.std.specs.Prelude.{ℕ, ◌+◌, ◌-◌, ◌≤◌, ◌<◌, Bool, List, [], ◌∷◌, ◌++◌, ◌≡◌, eqb, leb, length, take, drop, None, cond, replicate, ◌&&◌}
+use Rattle.head_attempt.specs.Waiters.{slot_of}
 use Rattle.head_count.specs.Counters.{epoch_of, seq_of, stats_of, up}
-use Rattle.head_driver.specs.New.{free}
 use Rattle.script.specs.Feeds.{last_leaves, last_prints, lent, reading}
 use Rattle.text.specs.Rests.{at, read_number}
 use Rattle.text.specs.Same.{same_text}
 use Rattle.text.specs.Writes.{Wrote}
+use Rattle.head_attempt.specs.declared.Waiter.{Waiter}
 use Rattle.head_current.specs.declared.CurrentHead.{CurrentHead}
 use Rattle.head_driver.specs.declared.Driver.{Driver}
 use Rattle.replay.specs.declared.Replay.{Replay}
@@ -35,7 +36,7 @@ started n = record {
     claim_epoch = epoch_of n;
     stats = stats_of n n n n n n n n;
   };
-  waiters = free 16;
+  waiters = replicate 16 (slot_of Waiter.Free);
 }
 
 -- a line is the first bytes of a buffer: its first byte is the mark, and a number may stand behind it

@@ -11,7 +11,6 @@ use head_count::head_lifecycle::raised;
 use head_count::{Epoch, HeadStats, Seq};
 use head_driver::Driver;
 use head_life::HeadLifecycle;
-use head_new::head_lifecycle::new;
 use pending::keep;
 use script::finish;
 use std::fs::File;
@@ -101,7 +100,7 @@ fn all_at(n: u64) -> HeadStats
 fn started(n: u64) -> Driver
     ensures { result ≡ started n }
 {
-    let new = new();
+    let new = Driver::new();
     Driver {
         life: HeadLifecycle {
             seq: Seq(n),

@@ -8,7 +8,7 @@ use mathlib.Core.List.{List, [], ◌∷◌, ◌++◌}
 use mathlib.Core.Path.{◌≡◌, refl}
 use lib.Dec.{leb, ltb}
 use borrow.Author.Tests.{leb-true, ltb-true}
-use Rattle.head_anchor.specs.Values.{anchor_value, block_hash_value, skip_value, slot_value}
+use Rattle.head_values.specs.Values.{anchor_value, block_hash_value, skip_value, slot_value}
 use Rattle.value_text.specs.Texts.{anchor_text, block_hash_text, skip_text, slot_text}
 use Rattle.value_text.specs.Values.{hash_text, value_text}
 use Rattle.value_text.specs.Words.{word_text}
@@ -19,8 +19,8 @@ use Rattle.script_call.specs.Texts.{call_text}
 use Rattle.text.specs.Ascii.{ascii}
 use Rattle.text.specs.Decimals.{decimal, decimal_on}
 use Rattle.hash.specs.declared.Hash.{Hash}
-use Rattle.head_anchor.specs.declared.BalSkip.{BalSkip}
-use Rattle.head_anchor.specs.declared.ReadAnchor.{ReadAnchor}
+use Rattle.head_values.specs.declared.BalSkip.{BalSkip}
+use Rattle.head_values.specs.declared.ReadAnchor.{ReadAnchor}
 use Rattle.head_call.specs.declared.Call.{Call}
 use Rattle.rules.specs.Runs.{Bytes, OneLine}
 

@@ -1,26 +1,26 @@
 -- The tests of the state machine decide document 01's conditions.
 use Rattle.std.proofs.lemmas.Option.{same_Some}
 use Rattle.std.proofs.lemmas.Bool.{and_parts}
-use Rattle.std.specs.Prelude.{is_some}
-use Rattle.std.specs.Prelude.{Option, None, Some, cond}
+use Rattle.std.specs.Prelude.{is_none, Option, None, Some}
+use mathlib.Core.Bool.{beq}
 use Rattle.head_ready.specs.declared.Generation.{Generation}
 use Prim.Native.Nat.{ℕ, ◌<◌}
 use native.Mathlib.Omega.{arith}
-use mathlib.Core.Bool.{Bool, true, false, not}
+use mathlib.Core.Bool.{Bool, true, false}
 use mathlib.Core.Logic.{◌↔◌}
 use mathlib.Core.Path.{◌≡◌, refl, ap, sym}
 use lib.Dec.{eqb, ltb}
 use borrow.Author.Tests.{eqb-true, ltb-false, ltb-true}
 use Rattle.alike.proofs.Tests.{anchor_same, eqb_same, same_anchor_lem, same_holds, holds_same, true_false, nothing_at}
-use Rattle.head_anchor.specs.Anchors.{holds, same_anchor}
-use Rattle.head_anchor.specs.Lists.{as_prepared, is_no_hash}
+use Rattle.head_values.specs.Anchors.{holds, same_anchor}
+use Rattle.head_values.specs.Lists.{as_prepared, is_no_hash}
 use Rattle.head_count.specs.Counters.{same_seq}
-use Rattle.head_current.specs.Heads.{ticket_of}
+use Rattle.head_current.specs.Heads.{has_ticket}
 use Rattle.head_ready.specs.Generations.{slot_anchor}
 use Rattle.hash.specs.declared.Hash.{Hash}
-use Rattle.head_anchor.specs.declared.BalSkip.{BalSkip}
-use Rattle.head_anchor.specs.declared.PreparedBal.{PreparedBal}
-use Rattle.head_anchor.specs.declared.ReadAnchor.{ReadAnchor}
+use Rattle.head_values.specs.declared.BalSkip.{BalSkip}
+use Rattle.head_values.specs.declared.PreparedBal.{PreparedBal}
+use Rattle.head_values.specs.declared.ReadAnchor.{ReadAnchor}
 use Rattle.head_current.specs.declared.HeadDelivery.{HeadDelivery}
 use Rattle.head_current.specs.declared.HeadTicket.{HeadTicket}
 use Rattle.rules.specs.Refusals.{HeadInstalled}
@@ -47,7 +47,7 @@ decode_other : (n : ℕ) → Other (BalSkip.Decode n)
 decode_other n p = cc
 
 abbrev agrees : BalSkip → Option Hash → Bool
-agrees x h = cond (is_no_hash x) (not (is_some h)) (is_some h)
+agrees x h = beq (is_no_hash x) (is_none h)
 
 other_agree : (x : BalSkip) (h : Hash) → Other x → Agree x (Some h)
 other_agree x h n = (λ e. absurd (n e), λ e. known_unknown e)
@@ -84,28 +84,28 @@ list_at_odds list e = disagree list.skip list.anchor.hash e
 
 -- ---- the waiter's number
 
-pub number_low : (n : ℕ) → ltb n 16 ≡ true → ¬ (15 < n)
-number_low n e h = omega (arith, ltb-true n 16 e)
+pub number_low : (n : ℕ) → ltb 15 n ≡ false → ¬ (15 < n)
+number_low n e h = omega (arith, ltb-false 15 n e)
 
-pub number_high : (n : ℕ) → ltb n 16 ≡ false → 15 < n
-number_high n e = omega (arith, ltb-false n 16 e)
+pub number_high : (n : ℕ) → ltb 15 n ≡ true → 15 < n
+number_high n e = ltb-true 15 n e
 
 -- ---- the ticket
 
 abbrev TicketOf : HeadDelivery → HeadTicket → Type 0
 TicketOf held ticket = (ticket.anchor ≡ held.anchor) × (ticket.seq ≡ held.seq)
 
-pub ticket_is : (held : HeadDelivery) (ticket : HeadTicket) → ticket_of held ticket ≡ true → TicketOf held ticket
-unfolding ticket_of same_seq
+pub ticket_is : (held : HeadDelivery) (ticket : HeadTicket) → has_ticket held ticket ≡ true → TicketOf held ticket
+unfolding has_ticket same_seq
 ticket_is held ticket e =
     let a = same_anchor held.anchor ticket.anchor in
     let n = eqb held.seq.0 ticket.seq.0 in
     let q = eqb-true _ _ ((and_parts a n e).1) in
     (sym (same_anchor_lem held.anchor ticket.anchor ((and_parts a n e).0)), sym (λ i. record { 0 = q i }))
 
-pub ticket_is_not : (held : HeadDelivery) (ticket : HeadTicket) → ticket_of held ticket ≡ false → ¬ TicketOf held ticket
-unfolding ticket_of same_seq
-ticket_is_not held ticket e t = true_false {b = ticket_of held ticket} (rw (anchor_same held.anchor ticket.anchor (sym t.0), t.1, eqb_same held.seq.0)) e
+pub ticket_is_not : (held : HeadDelivery) (ticket : HeadTicket) → has_ticket held ticket ≡ false → ¬ TicketOf held ticket
+unfolding has_ticket same_seq
+ticket_is_not held ticket e t = true_false {b = has_ticket held ticket} (rw (anchor_same held.anchor ticket.anchor (sym t.0), t.1, eqb_same held.seq.0)) e
 
 -- ---- the anchors
 

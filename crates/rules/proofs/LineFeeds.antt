@@ -18,7 +18,7 @@ use Rattle.value_text.specs.Texts.{anchor_text}
 use Rattle.sheet_lines.specs.Lines.{count_line, current_line, generation_text, installed_line, previous_line, superseded_line, waiter_line, waiter_lines}
 use Rattle.text.specs.Ascii.{ascii}
 use Rattle.text.specs.Decimals.{decimal}
-use Rattle.head_anchor.specs.declared.ReadAnchor.{ReadAnchor}
+use Rattle.head_values.specs.declared.ReadAnchor.{ReadAnchor}
 use Rattle.head_driver.specs.declared.Driver.{Driver}
 use Rattle.head_life.specs.declared.HeadLifecycle.{HeadLifecycle}
 use Rattle.script_call.specs.declared.LineCall.{LineCall}

@@ -1,6 +1,5 @@
 -- Lines against the calls that they write: every line keeps the invariant; drivers that answer every call alike answer every line alike, and the other way round.
 use Prim.Native.Nat.{ℕ}
-use native.Mathlib.Omega.{arith}
 use mathlib.Core.List.{List, [], ◌∷◌}
 use mathlib.Core.Path.{◌≡◌, refl, ap, ap₂, sym, ◌∙◌}
 use Rattle.std.specs.Prelude.{Option, Some, None}

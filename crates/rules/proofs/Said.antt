@@ -48,9 +48,9 @@ said_says (Answer.Link link) = λ rest. differ 1 _ _ (λ e. omega (arith, e))
 said_says (Answer.Report r) = λ rest. differ 3 _ _ (λ e. omega (arith, e))
 said_says (Answer.Stats s) = λ rest. differ 1 _ _ (λ e. omega (arith, e))
 said_says (Answer.Heads current installed previous) = λ rest. differ 1 _ _ (λ e. omega (arith, e))
-said_says Answer.ListAtOdds = refl
-said_says Answer.WaiterOutOfRange = refl
-said_says Answer.WaiterTaken = refl
+said_says Answer.ListDisagrees = refl
+said_says Answer.WaiterAbove15 = refl
+said_says Answer.WaiterNotFree = refl
 said_says Answer.WaiterFree = refl
 
 pub line_says : (a : LineAnswer) → Says (line_text a) (line_refusal a)

@@ -5,14 +5,14 @@ use Rattle.std.specs.Prelude.{ℕ, ◌<◌, Bool, true, false, List, [], ◌∷�
 use Rattle.head_count.specs.Counters.{stats_of, up}
 use Rattle.head_current.specs.Heads.{delivery}
 use Rattle.head_life.specs.State.{with_stats}
-use Rattle.head_waits.specs.Calls.{waiter_at}
+use Rattle.head_waits.specs.Parts.{waiter_at}
 use Rattle.script_call.specs.Calls.{call}
 use Rattle.head_call.specs.Ranges.{Writable}
 use Rattle.script_call.specs.Texts.{call_text}
 use Rattle.text.specs.Ascii.{ascii}
-use Rattle.head_anchor.specs.declared.BalSkip.{BalSkip}
-use Rattle.head_anchor.specs.declared.PreparedBal.{PreparedBal}
-use Rattle.head_anchor.specs.declared.ReadAnchor.{ReadAnchor}
+use Rattle.head_values.specs.declared.BalSkip.{BalSkip}
+use Rattle.head_values.specs.declared.PreparedBal.{PreparedBal}
+use Rattle.head_values.specs.declared.ReadAnchor.{ReadAnchor}
 use Rattle.head_count.specs.declared.HeadStats.{HeadStats}
 use Rattle.head_attempt.specs.declared.Waiter.{Waiter}
 use Rattle.head_current.specs.declared.CurrentHead.{CurrentHead}

@@ -4,7 +4,7 @@ use Rattle.value_text.specs.Texts.{anchor_text}
 use Rattle.text.specs.Ascii.{ascii}
 use Rattle.text.specs.Decimals.{decimal}
 use Rattle.script_answer.specs.declared.LineAnswer.{LineAnswer}
-use Rattle.head_anchor.specs.declared.ReadAnchor.{ReadAnchor}
+use Rattle.head_values.specs.declared.ReadAnchor.{ReadAnchor}
 use Rattle.head_driver.specs.declared.Answer.{Answer}
 use Rattle.head_ready.specs.declared.HeadOutcome.{HeadOutcome}
 use Rattle.value_text.specs.declared.page.Page.{Page}
@@ -31,9 +31,9 @@ answer_refusal (Answer.Link link) = Refusal.accepted
 answer_refusal (Answer.Report r) = Refusal.accepted
 answer_refusal (Answer.Stats s) = Refusal.accepted
 answer_refusal (Answer.Heads current installed previous) = Refusal.accepted
-answer_refusal Answer.ListAtOdds = Refusal.refused 2 []
-answer_refusal Answer.WaiterOutOfRange = Refusal.refused 3 []
-answer_refusal Answer.WaiterTaken = Refusal.refused 15 []
+answer_refusal Answer.ListDisagrees = Refusal.refused 2 []
+answer_refusal Answer.WaiterAbove15 = Refusal.refused 3 []
+answer_refusal Answer.WaiterNotFree = Refusal.refused 15 []
 answer_refusal Answer.WaiterFree = Refusal.refused 16 []
 
 abbrev pub line_refusal : LineAnswer → Refusal

@@ -75,7 +75,7 @@ at_feed x d p b = record {
   prints = prints_append (record { driver = d; kept = p }) x (10 ∷ []) ∙ rw (b.taken, b.prints, append-nil);
 }
 
--- ---- what `feed_line` does
+-- ---- a turn of `feed`
 
 -- what a turn of the loop of `feed` does, which takes the input up to the end of a line, or to its end
 pub record FeedsLine (fed : Fed) (pending pending' input out out' : List ℕ) (r : Fed) : Type 0 where

@@ -4,7 +4,7 @@ use mathlib.Core.List.{List}
 use mathlib.Core.Path.{◌≡◌, refl, ap, sym, ◌∙◌}
 use lib.ListN.{length}
 use borrow.Author.Tests.{le-ltb}
-use Rattle.std.specs.Prelude.{Option, Some, None}
+use Rattle.std.specs.Prelude.{Option, Some, None, unwrap_or}
 use Rattle.driver.specs.Turns.{Takes, made, sheet_after, sheet_answer, turn_of}
 use Rattle.script_answer.specs.Answers.{line_text}
 use Rattle.script_call.specs.Calls.{call}
@@ -14,7 +14,6 @@ use Rattle.script_answer.specs.declared.LineAnswer.{LineAnswer}
 use Rattle.driver.specs.declared.Turn.{Turn}
 use Rattle.head_driver.specs.declared.Driver.{Driver}
 use Rattle.script_call.specs.declared.LineCall.{LineCall}
-use Rattle.std.specs.Prelude.{Option, unwrap_or}
 use Rattle.script.specs.Prints.{leaves, prints}
 use Rattle.script.specs.Parts.{Prints, PutsAnswer, answer_length, at_front}
 

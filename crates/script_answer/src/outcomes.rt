@@ -8,8 +8,8 @@ ghost use Rattle.text.specs.Decimals.{decimal};
 ghost use Rattle.text_put.specs.Writers.{Puts, Room};
 ghost use Rattle.head_driver.specs.declared.Answer.{Answer};
 
-use head_anchor::{CarryOutcome, ReadAnchor};
 use head_ready::HeadOutcome;
+use head_values::{CarryOutcome, ReadAnchor};
 use number_text::{put_decimal, put_named};
 use script_outcome::put_outcome;
 use text_put::TextWriter;

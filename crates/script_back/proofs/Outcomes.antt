@@ -5,8 +5,8 @@ use Prim.Native.Nat.{ℕ}
 use mathlib.Core.Bool.{false}
 use mathlib.Core.List.{List, ◌++◌, append_assoc}
 use mathlib.Core.Path.{◌≡◌, refl, ◌∙◌}
-use Rattle.head_anchor.specs.Values.{fault_value, link_value, outcome_value}
-use Rattle.head_anchor.specs.Words.{Word}
+use Rattle.head_values.specs.Values.{fault_value, link_value, outcome_value}
+use Rattle.head_values.specs.Words.{Word}
 use Rattle.head_driver.specs.Answers.{end_value, readiness_value, report_value, source_value}
 use Rattle.script_outcome.specs.Texts.{cold_text, end_text, outcome_text, readiness_text, report_text, source_text}
 use Rattle.value_text.proofs.Back.{skip_back}
@@ -21,16 +21,16 @@ use Rattle.text.specs.Ascii.{ascii}
 use Rattle.text.specs.Rests.{after, at, says, after_byte}
 use Rattle.text.specs.Same.{same_text}
 use Rattle.text.specs.Words.{in_word, run}
-use Rattle.head_anchor.specs.declared.BalSkip.{BalSkip}
-use Rattle.head_anchor.specs.declared.CarryOutcome.{CarryOutcome}
-use Rattle.head_anchor.specs.declared.Link.{Link}
+use Rattle.head_values.specs.declared.BalSkip.{BalSkip}
+use Rattle.head_values.specs.declared.CarryOutcome.{CarryOutcome}
+use Rattle.head_values.specs.declared.Link.{Link}
 use Rattle.head_attempt.specs.declared.HeadCompletion.{HeadCompletion}
 use Rattle.head_ready.specs.declared.HeadCold.{HeadCold}
 use Rattle.head_ready.specs.declared.HeadReadiness.{HeadReadiness}
 use Rattle.head_ready.specs.declared.Source.{Source}
 use Rattle.script_back.specs.Outcomes.{read_cold, read_end, read_fault, read_faulty, read_link, read_made, read_outcome, read_readiness, read_report, read_source}
 use Rattle.hash.specs.Ranges.{Fits}
-use Rattle.head_anchor.specs.Ranges.{OutcomeFits, SkipFits}
+use Rattle.head_values.specs.Ranges.{OutcomeFits, SkipFits}
 use Rattle.head_ready.specs.Ranges.{ReadinessFits}
 use Rattle.head_current.specs.Ranges.{ReportFits}
 use Rattle.script_back.proofs.Counters.{spaced_back, spaced_run}

@@ -1,14 +1,14 @@
 -- Reading links, outcomes, reports, readiness, sources and ends from the front of a text, with a failure that stays.
 use Rattle.std.specs.Prelude.{Option, None, cond, Some}
 use Rattle.head_current.specs.declared.DeltaReport.{DeltaReport}
-use Rattle.head_anchor.specs.Words.{Word}
+use Rattle.head_values.specs.Words.{Word}
 use Rattle.value_text.specs.Reads.{got, map, or_word, read_skip, spaced_number, then}
 use Rattle.value_text.specs.Words.{word_text}
 use Rattle.text.specs.Ascii.{ascii}
 use Rattle.text.specs.Rests.{Rest, Took, after, past_word, says, stopped}
-use Rattle.head_anchor.specs.declared.BalSkip.{BalSkip}
-use Rattle.head_anchor.specs.declared.CarryOutcome.{CarryOutcome}
-use Rattle.head_anchor.specs.declared.Link.{Link}
+use Rattle.head_values.specs.declared.BalSkip.{BalSkip}
+use Rattle.head_values.specs.declared.CarryOutcome.{CarryOutcome}
+use Rattle.head_values.specs.declared.Link.{Link}
 use Rattle.head_attempt.specs.declared.HeadCompletion.{HeadCompletion}
 use Rattle.head_ready.specs.declared.HeadCold.{HeadCold}
 use Rattle.head_ready.specs.declared.HeadReadiness.{HeadReadiness}

@@ -4,8 +4,8 @@ use Prim.Native.Nat.{ℕ}
 use mathlib.Core.Path.{◌≡◌}
 use mathlib.Core.List.{List, ◌++◌}
 use Rattle.hash.specs.declared.Hash.{Hash}
-use Rattle.head_anchor.specs.declared.BalSkip.{BalSkip}
-use Rattle.head_anchor.specs.declared.ReadAnchor.{ReadAnchor}
+use Rattle.head_values.specs.declared.BalSkip.{BalSkip}
+use Rattle.head_values.specs.declared.ReadAnchor.{ReadAnchor}
 use Rattle.text.specs.Ascii.{ascii}
 use Rattle.text.specs.Words.{run}
 use Rattle.text.specs.Rests.{at, after_byte, after}
@@ -16,7 +16,7 @@ use Rattle.value_text.proofs.Back.{anchor_back, slot_back, skip_back}
 use Rattle.script_call.specs.Values.{spaced_hash, spaced_anchor, spaced_slot, spaced_skip}
 use Rattle.value_text.specs.Texts.{anchor_text, slot_text, skip_text}
 use Rattle.value_text.specs.declared.page.Page.{Page}
-use Rattle.head_anchor.specs.Ranges.{AnchorFits, SlotFits, SkipFits}
+use Rattle.head_values.specs.Ranges.{AnchorFits, SlotFits, SkipFits}
 
 pub spaced_hash_back : (h : Hash) (t : List ℕ) → HashFits h → run t ≡ 0 → spaced_hash (at (ascii " " ++ (line_hash_text h ++ t))) ≡ record { value = h; next = at t }
 unfolding spaced_hash after after_byte

@@ -23,7 +23,7 @@ use Rattle.value_text.specs.Reads.{or_word, map, then, hash_said, block_hash_got
 use Rattle.value_text.specs.Texts.{block_hash_text, anchor_text, slot_text, skip_text}
 use Rattle.value_text.specs.Values.{hash_text, value_text}
 use Rattle.value_text.specs.Words.{word_text}
-use Rattle.head_anchor.specs.Values.{anchor_value, block_hash_value, skip_value, slot_value}
+use Rattle.head_values.specs.Values.{anchor_value, block_hash_value, skip_value, slot_value}
 use Rattle.value_text.specs.declared.page.Page.{Page}
 
 -- ---- given texts

@@ -1,10 +1,10 @@
 -- What is read from a line is below 2^64, whatever the line.
-use Rattle.head_anchor.specs.declared.ReadAnchor.{ReadAnchor}
+use Rattle.head_values.specs.declared.ReadAnchor.{ReadAnchor}
 use mathlib.Core.Path.{◌≡◌, refl}
 use mathlib.Core.Bool.{Bool, true, false}
 use Rattle.std.specs.Prelude.{Option, Some, None, cond}
 use Rattle.hash.specs.declared.Hash.{Hash}
-use Rattle.head_anchor.specs.declared.BalSkip.{BalSkip}
+use Rattle.head_values.specs.declared.BalSkip.{BalSkip}
 use Rattle.text.specs.Ascii.{ascii}
 use Rattle.text.specs.Rests.{Rest, Took, word_here, says, past_word}
 use Rattle.text.proofs.Only.{number_range}
@@ -15,7 +15,7 @@ use Rattle.value_text.specs.Reads.{or_word, map, then, hash_said, block_hash_got
 use Rattle.value_text.specs.Words.{word_text}
 use Rattle.value_text.specs.declared.page.Page.{Page}
 use Rattle.script_call.specs.Values.{spaced_hash, spaced_anchor, spaced_slot, spaced_skip}
-use Rattle.head_anchor.specs.Ranges.{BlockHashFits, AnchorFits, SlotFits, SkipFits}
+use Rattle.head_values.specs.Ranges.{BlockHashFits, AnchorFits, SlotFits, SkipFits}
 
 -- what holds of both sides of a choice holds of what is chosen
 pub chosen : {A : Type 0} (P : A → Type 0) (b : Bool) (x y : A) → P x → P y → P (cond b x y)

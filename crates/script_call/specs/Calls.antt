@@ -1,6 +1,6 @@
 -- Document 01, "Lines": the calls, in its order. Each is one pair of brackets around a keyword and its values, with single spaces between them, and ends the line.
 use Rattle.std.specs.Prelude.{ℕ, Bool, List, length, eqb, ltb, Option, Some, None, cond}
-use Rattle.head_anchor.specs.declared.PreparedBal.{PreparedBal}
+use Rattle.head_values.specs.declared.PreparedBal.{PreparedBal}
 use Rattle.head_current.specs.declared.HeadTicket.{HeadTicket}
 use Rattle.head_call.specs.declared.Call.{Call}
 use Rattle.text.specs.Ascii.{ascii}

@@ -5,8 +5,8 @@ use Rattle.text.specs.Ascii.{ascii}
 use Rattle.text.specs.Rests.{Rest, Took, after}
 use Rattle.value_text.specs.Reads.{read_anchor, read_slot, read_skip}
 use Rattle.hash.specs.declared.Hash.{Hash}
-use Rattle.head_anchor.specs.declared.BalSkip.{BalSkip}
-use Rattle.head_anchor.specs.declared.ReadAnchor.{ReadAnchor}
+use Rattle.head_values.specs.declared.BalSkip.{BalSkip}
+use Rattle.head_values.specs.declared.ReadAnchor.{ReadAnchor}
 use Rattle.value_text.specs.declared.page.Page.{Page}
 
 unfoldable pub spaced_hash : Rest → Took Hash

@@ -6,7 +6,7 @@ ghost use Rattle.value_text.specs.declared.page.Page.{Page};
 
 use hash::Hash;
 use hash_read::read_hash;
-use head_anchor::ReadAnchor;
+use head_values::ReadAnchor;
 use line_reader::LineReader;
 use text_decimal::take_decimal;
 

@@ -10,10 +10,10 @@ ghost use Rattle.script_call.specs.Calls.{ends, closed, spaced_ticket, spaced_li
 use crate::anchor::{spaced_anchor, spaced_slot};
 use crate::skip::spaced_skip;
 use crate::spaced::{spaced_hash, spaced_number};
-use head_anchor::PreparedBal;
 use head_call::Call;
 use head_count::{Epoch, Seq};
 use head_current::{HeadTicket, PrepareClaim};
+use head_values::PreparedBal;
 use line_reader::LineReader;
 
 mod anchor;

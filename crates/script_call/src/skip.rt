@@ -4,7 +4,7 @@ ghost use Rattle.script_call.specs.Values.{spaced_skip};
 ghost use Rattle.value_text.specs.Reads.{read_failure};
 
 use crate::spaced::spaced_number;
-use head_anchor::BalSkip;
+use head_values::BalSkip;
 use line_reader::LineReader;
 
 // `rpc N)` or `decode N)`: what follows the bracket of a skip that holds a number.

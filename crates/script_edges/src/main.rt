@@ -9,7 +9,6 @@ ghost use Rattle.script_edges.specs.Plays.{AsksSheet, Plays, TakesByte, afresh, 
 
 use driver::{LineAnswer, put_line, take_line};
 use head_driver::Driver;
-use head_new::head_lifecycle::new;
 use script::{Fed, feed, finish};
 use std::io::{self, Read, Write};
 
@@ -17,7 +16,7 @@ fn afresh() -> Fed
     ensures { result ≡ afresh }
 {
     Fed {
-        driver: new(),
+        driver: Driver::new(),
         held: 0,
         taken: 0,
         written: 0,
@@ -81,7 +80,7 @@ fn show_line(rt: &impl Print, answer: LineAnswer) {
 fn sheet_asked(buf: &mut [u8]) -> LineAnswer
     ensures { AsksSheet buf.old buf.new result }
 {
-    take_line(new(), b"(sheet)", buf).answer
+    take_line(Driver::new(), b"(sheet)", buf).answer
 }
 
 // `(sheet)` of a new driver into a lent buffer: the sheet that stands there, or the refusal's line.

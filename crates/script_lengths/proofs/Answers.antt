@@ -17,9 +17,9 @@ use Rattle.value_text.specs.Values.{value_text, values_on}
 use Rattle.value_text.specs.Words.{word_text}
 use Rattle.text.specs.Ascii.{ascii}
 use Rattle.text.specs.Decimals.{decimal, decimal_on}
-use Rattle.head_anchor.specs.declared.CarryOutcome.{CarryOutcome}
-use Rattle.head_anchor.specs.declared.Link.{Link}
-use Rattle.head_anchor.specs.declared.ReadAnchor.{ReadAnchor}
+use Rattle.head_values.specs.declared.CarryOutcome.{CarryOutcome}
+use Rattle.head_values.specs.declared.Link.{Link}
+use Rattle.head_values.specs.declared.ReadAnchor.{ReadAnchor}
 use Rattle.head_attempt.specs.declared.HeadCompletion.{HeadCompletion}
 use Rattle.head_count.specs.declared.HeadStats.{HeadStats}
 use Rattle.head_driver.specs.declared.Answer.{Answer}
@@ -136,9 +136,9 @@ text_short (Answer.Link k) = link_short k
 text_short (Answer.Report r) = report_short r
 text_short (Answer.Stats s) = stats_short s
 text_short (Answer.Heads c i p) = heads_short c i p
-text_short Answer.ListAtOdds = omega arith
-text_short Answer.WaiterOutOfRange = omega arith
-text_short Answer.WaiterTaken = omega arith
+text_short Answer.ListDisagrees = omega arith
+text_short Answer.WaiterAbove15 = omega arith
+text_short Answer.WaiterNotFree = omega arith
 text_short Answer.WaiterFree = omega arith
 
 pub answer_length : AnswerLength

@@ -6,7 +6,7 @@ use native.Mathlib.Omega.{arith}
 use mathlib.Core.List.{◌++◌}
 use mathlib.Core.Path.{◌≡◌, refl}
 use lib.ListN.{length, length-append}
-use Rattle.head_anchor.specs.Values.{fault_value, link_value, outcome_value}
+use Rattle.head_values.specs.Values.{fault_value, link_value, outcome_value}
 use Rattle.head_driver.specs.Answers.{end_value, readiness_value, report_value, source_value}
 use Rattle.value_text.proofs.Lengths.{skip_most}
 use Rattle.script_outcome.specs.Texts.{cold_text, end_text, outcome_text, readiness_text, report_text, source_text}
@@ -18,9 +18,9 @@ use Rattle.value_text.specs.Words.{word_text}
 use Rattle.text.proofs.Back.{length-decimal}
 use Rattle.text.specs.Ascii.{ascii}
 use Rattle.text.specs.Decimals.{decimal}
-use Rattle.head_anchor.specs.declared.BalSkip.{BalSkip}
-use Rattle.head_anchor.specs.declared.CarryOutcome.{CarryOutcome}
-use Rattle.head_anchor.specs.declared.Link.{Link}
+use Rattle.head_values.specs.declared.BalSkip.{BalSkip}
+use Rattle.head_values.specs.declared.CarryOutcome.{CarryOutcome}
+use Rattle.head_values.specs.declared.Link.{Link}
 use Rattle.head_attempt.specs.declared.HeadCompletion.{HeadCompletion}
 use Rattle.head_count.specs.declared.HeadStats.{HeadStats}
 use Rattle.head_ready.specs.declared.HeadCold.{HeadCold}

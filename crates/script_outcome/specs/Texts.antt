@@ -1,13 +1,13 @@
 -- A name for the text of each value that holds no hash: it is the same on a line and on a sheet.
 use Rattle.head_current.specs.declared.DeltaReport.{DeltaReport}
 use Rattle.std.specs.Prelude.{ℕ, List, Option}
-use Rattle.head_anchor.specs.Values.{Value, fault_value, outcome_value, skip_value}
-use Rattle.head_anchor.specs.Words.{Word}
+use Rattle.head_values.specs.Values.{Value, fault_value, outcome_value, skip_value}
+use Rattle.head_values.specs.Words.{Word}
 use Rattle.head_driver.specs.Answers.{end_value, readiness_value, report_value, source_value}
 use Rattle.value_text.specs.Values.{value_text}
-use Rattle.head_anchor.specs.declared.BalSkip.{BalSkip}
-use Rattle.head_anchor.specs.declared.CarryOutcome.{CarryOutcome}
-use Rattle.head_anchor.specs.declared.Link.{Link}
+use Rattle.head_values.specs.declared.BalSkip.{BalSkip}
+use Rattle.head_values.specs.declared.CarryOutcome.{CarryOutcome}
+use Rattle.head_values.specs.declared.Link.{Link}
 use Rattle.head_attempt.specs.declared.HeadCompletion.{HeadCompletion}
 use Rattle.head_ready.specs.declared.HeadCold.{HeadCold}
 use Rattle.head_ready.specs.declared.HeadReadiness.{HeadReadiness}

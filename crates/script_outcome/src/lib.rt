@@ -1,13 +1,13 @@
 // Outcomes as text, into a lent buffer, for lines and sheets alike: one writer for each value.
 // No hash stands in an outcome, so its text is the same on a line and on a sheet. Its code knows nothing of what
 // holds an outcome; its definitions have the texts of reports, readiness, sources and ends too.
-#![tactic(auto, using(text_put::proofs::Writers::wrote_both), unfolding(value_text::specs::Texts::skip_text, head_anchor::specs::Values::skip_value, value_text::specs::Values::value_text, value_text::specs::Words::word_text, crate::specs::Texts::cold_text, value_text::specs::Texts::fault_text, crate::specs::Texts::outcome_text, head_anchor::specs::Values::outcome_value))]
+#![tactic(auto, using(text_put::proofs::Writers::wrote_both), unfolding(value_text::specs::Texts::skip_text, head_values::specs::Values::skip_value, value_text::specs::Values::value_text, value_text::specs::Words::word_text, crate::specs::Texts::cold_text, value_text::specs::Texts::fault_text, crate::specs::Texts::outcome_text, head_values::specs::Values::outcome_value))]
 
 ghost use Rattle.script_outcome.specs.Texts.{cold_text, outcome_text};
 ghost use Rattle.value_text.specs.Texts.{skip_text};
 ghost use Rattle.text_put.specs.Writers.{Puts, Room};
 
-use head_anchor::{BalSkip, CarryOutcome, Link};
+use head_values::{BalSkip, CarryOutcome, Link};
 use link_text::put_fault;
 use number_text::put_named;
 use text_put::TextWriter;

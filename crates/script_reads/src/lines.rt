@@ -1,6 +1,6 @@
 // The lines of the answers of calls that only read, each without its line feed.
 // A bracket, a word and the value, in three lines each: one function over a writer handed in would need that writer's contract written out.
-#![tactic(auto, using(text_put::proofs::Writers::wrote_both), unfolding(script_outcome::specs::Texts::end_text, head_driver::specs::Answers::end_value, value_text::specs::Values::value_text, value_text::specs::Words::word_text, value_text::specs::Texts::fault_text, value_text::specs::Texts::link_text, head_anchor::specs::Values::fault_value, head_anchor::specs::Values::link_value, script_value::specs::Lines::answer_text, script_value::specs::Lines::said_text, head_driver::specs::Answers::said, script_value::specs::Lines::refusal_on, value_text::specs::Values::values_on, script_outcome::specs::Texts::report_text, value_text::specs::Texts::slot_text))]
+#![tactic(auto, using(text_put::proofs::Writers::wrote_both), unfolding(script_outcome::specs::Texts::end_text, head_driver::specs::Answers::end_value, value_text::specs::Values::value_text, value_text::specs::Words::word_text, value_text::specs::Texts::fault_text, value_text::specs::Texts::link_text, head_values::specs::Values::fault_value, head_values::specs::Values::link_value, script_value::specs::Lines::answer_text, script_value::specs::Lines::said_text, head_driver::specs::Answers::said, script_value::specs::Lines::refusal_on, value_text::specs::Values::values_on, script_outcome::specs::Texts::report_text, value_text::specs::Texts::slot_text))]
 
 ghost use Rattle.head_driver.specs.declared.Answer.{Answer};
 ghost use Rattle.script_outcome.specs.Texts.{end_text};
@@ -8,10 +8,10 @@ ghost use Rattle.script_value.specs.Lines.{answer_text};
 ghost use Rattle.text_put.specs.Writers.{Puts, Room};
 ghost use Rattle.value_text.specs.Texts.{link_text};
 
-use head_anchor::{Link, ReadAnchor};
 use head_attempt::HeadCompletion;
 use head_count::HeadStats;
 use head_current::DeltaReport;
+use head_values::{Link, ReadAnchor};
 use link_text::put_fault;
 use script_report::put_report;
 use script_value::counters::put_stats;

@@ -2,12 +2,12 @@
 ghost use Rattle.std.specs.Prelude.{◌≡◌};
 ghost use Rattle.alike.specs.Canon.{masked, shown_superseded};
 
-use head_anchor::ReadAnchor;
 use head_current::CurrentHead;
 use head_ready::Generation;
 use head_ready::delta_snapshot::slot_anchor;
+use head_values::ReadAnchor;
 
-#[tactic(auto, unfolding(alike::specs::Canon::masked, alike::specs::Canon::is_settled, head_anchor::specs::Anchors::holds, head_anchor::specs::Anchors::same_anchor, hash::specs::Hashes::same_hash))]
+#[tactic(auto, unfolding(alike::specs::Canon::masked, head_current::specs::Heads::is_settled, head_values::specs::Anchors::holds, head_values::specs::Anchors::same_anchor, hash::specs::Hashes::same_hash))]
 pub(crate) fn masked(current: CurrentHead, previous: Option<Generation>, anchor: ReadAnchor) -> bool
     ensures { result ≡ masked current previous anchor }
 {

@@ -1,6 +1,6 @@
 -- The lines of the lifecycle are read back.
 use Rattle.std.specs.Prelude.{Option, None, Some}
-use Rattle.head_anchor.specs.declared.ReadAnchor.{ReadAnchor}
+use Rattle.head_values.specs.declared.ReadAnchor.{ReadAnchor}
 use Prim.Native.Nat.{ℕ}
 use mathlib.Core.List.{List, ◌++◌, append_assoc}
 use mathlib.Core.Path.{◌≡◌, refl, ◌∙◌}
@@ -10,13 +10,13 @@ use Rattle.head_current.specs.Ranges.{DeliveryFits, HeadFits, SettledFits, Unset
 use Rattle.alike.specs.Canon.{shown_head}
 use Rattle.alike.specs.Invariant.{OpenOrAbandoned, WhenUnclaimed}
 use Rattle.head_count.specs.Counters.{seq_of}
-use Rattle.head_deliver.specs.Delivered.{delivery_of}
+use Rattle.head_current.specs.Parts.{delivery_of}
 use Rattle.hash_text.proofs.Back.{sheet_hash_back}
 use Rattle.value_text.proofs.Back.{anchor_back, anchor_form, slot_back}
 use Rattle.value_text.proofs.Keywords.{open_miss, word_hit, word_miss}
 use Rattle.script_back.proofs.Counters.{spaced_back, spaced_run, stats_back}
 use Rattle.script_back.proofs.Outcomes.{readiness_back, report_back}
-use Rattle.head_anchor.specs.Ranges.{SlotFits}
+use Rattle.head_values.specs.Ranges.{SlotFits}
 use Rattle.hash.specs.Ranges.{Fits}
 use Rattle.head_count.specs.Ranges.{StatsFit}
 use Rattle.value_text.specs.Reads.{got, then}

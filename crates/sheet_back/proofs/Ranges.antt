@@ -3,9 +3,9 @@ use Rattle.std.specs.Prelude.{Option, None, Some, cond}
 use Rattle.head_ready.specs.declared.Generation.{Generation}
 use mathlib.Core.Bool.{Bool, true, false}
 use Rattle.alike.specs.Canon.{mask_by, masked, shown_superseded}
-use Rattle.head_anchor.specs.declared.ReadAnchor.{ReadAnchor}
+use Rattle.head_values.specs.declared.ReadAnchor.{ReadAnchor}
 use Rattle.head_current.specs.declared.CurrentHead.{CurrentHead}
-use Rattle.head_anchor.specs.Ranges.{AnchorFits, SlotFits}
+use Rattle.head_values.specs.Ranges.{AnchorFits, SlotFits}
 
 if_fits : (b : Bool) (a : ReadAnchor) → AnchorFits a → SlotFits (cond b None (Some a))
 if_fits true a f = tt

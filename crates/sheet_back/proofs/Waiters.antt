@@ -6,7 +6,7 @@ use mathlib.Core.List.{List, [], ◌∷◌, ◌++◌, append_assoc}
 use mathlib.Core.Path.{◌≡◌, refl, ◌∙◌}
 use lib.ListN.{length}
 use borrow.Author.Tests.{eq-eqb, ne_eqb}
-use Rattle.head_anchor.specs.Ranges.{AnchorFits}
+use Rattle.head_values.specs.Ranges.{AnchorFits}
 use Rattle.alike.specs.Ranges as A
 use Rattle.value_text.proofs.Back.{anchor_back}
 use Rattle.hash.specs.Ranges.{Fits}
@@ -19,7 +19,7 @@ use Rattle.text.specs.Decimals.{decimal, number}
 use Rattle.text.specs.Rests.{Took, after, at, number_got, past, past_word, read_number, after_byte, word_here}
 use Rattle.text.specs.Same.{same_text}
 use Rattle.text.specs.Words.{in_word, run}
-use Rattle.head_anchor.specs.declared.ReadAnchor.{ReadAnchor}
+use Rattle.head_values.specs.declared.ReadAnchor.{ReadAnchor}
 use Rattle.head_attempt.specs.declared.Waiter.{Waiter}
 use Rattle.head_attempt.specs.declared.WaiterSlot.{WaiterSlot}
 use Rattle.value_text.specs.declared.page.Page.{Page}

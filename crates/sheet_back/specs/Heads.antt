@@ -1,11 +1,11 @@
 -- Reading the lines of the lifecycle, in document 01's order.
-use Rattle.head_anchor.specs.declared.ReadAnchor.{ReadAnchor}
+use Rattle.head_values.specs.declared.ReadAnchor.{ReadAnchor}
 use Rattle.head_ready.specs.declared.Generation.{Generation}
 use Rattle.std.specs.Prelude.{ℕ, List, Option, None, Some, cond}
-use Rattle.head_anchor.specs.Words.{Word}
+use Rattle.head_values.specs.Words.{Word}
 use Rattle.head_attempt.specs.Attempts.{minted, settled}
 use Rattle.head_count.specs.Counters.{epoch_of, seq_of}
-use Rattle.head_deliver.specs.Delivered.{delivery_of}
+use Rattle.head_current.specs.Parts.{delivery_of}
 use Rattle.hash_text.specs.Reads.{read_sheet_hash}
 use Rattle.script_back.specs.Counters.{read_stats}
 use Rattle.script_back.specs.Outcomes.{read_readiness, read_report}

@@ -1,5 +1,5 @@
 -- Document 01, "The sheet": its lines, in its order. Every one ends with a line feed; an absent part is `none` in its brackets.
-use Rattle.head_anchor.specs.declared.ReadAnchor.{ReadAnchor}
+use Rattle.head_values.specs.declared.ReadAnchor.{ReadAnchor}
 use Rattle.head_ready.specs.declared.Generation.{Generation}
 use Rattle.std.specs.Prelude.{ℕ, suc, List, [], ◌∷◌, ◌++◌, Option, None, Some}
 use Rattle.script_outcome.specs.Texts.{readiness_text, report_text}

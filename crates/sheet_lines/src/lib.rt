@@ -10,10 +10,10 @@ ghost use Rattle.text_put.specs.Writers.{Puts, Room};
 
 use crate::lines::{put_count, put_superseded};
 use hash_text::put_hash;
-use head_anchor::ReadAnchor;
 use head_attempt::HeadCompletion;
 use head_count::{Epoch, HeadStats};
 use head_current::{CurrentHead, DeltaReport, HeadDelivery, SettledHead, UnsettledHead};
+use head_values::ReadAnchor;
 use script_report::put_report;
 use script_value::counters::put_spaced;
 use text_put::TextWriter;

@@ -4,8 +4,8 @@
 ghost use Rattle.sheet_lines.specs.Lines.{count_line, superseded_line};
 ghost use Rattle.text_put.specs.Writers.{Puts, Room};
 
-use head_anchor::ReadAnchor;
 use head_count::{Epoch, HeadStats};
+use head_values::ReadAnchor;
 use script_value::counters::{put_spaced, put_stats};
 use slot_text::put_slot;
 use text_put::TextWriter;

@@ -10,8 +10,8 @@ ghost use Rattle.text_put.specs.Writers.{Puts, Room};
 ghost use Rattle.value_text.specs.Texts.{anchor_text};
 ghost use Rattle.value_text.specs.declared.page.Page.{Page};
 
-use head_anchor::ReadAnchor;
 use head_attempt::{Waiter, WaiterSlot};
+use head_values::ReadAnchor;
 use number_text::put_decimal;
 use text_put::TextWriter;
 use value_text::anchor::put_anchor;

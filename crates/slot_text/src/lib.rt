@@ -5,13 +5,13 @@
 ghost use Rattle.text_put.specs.Writers.{Puts, Room};
 ghost use Rattle.value_text.specs.Texts.{slot_text};
 
-use head_anchor::ReadAnchor;
+use head_values::ReadAnchor;
 use text_put::TextWriter;
 use value_text::anchor::put_anchor;
 use value_text::page::Page;
 
 // Puts an anchor, or `none`: two lines, as `put_block_hash`.
-#[tactic(auto, unfolding(value_text::specs::Texts::slot_text, head_anchor::specs::Values::slot_value, value_text::specs::Texts::anchor_text, value_text::specs::Values::value_text, value_text::specs::Words::word_text))]
+#[tactic(auto, unfolding(value_text::specs::Texts::slot_text, head_values::specs::Values::slot_value, value_text::specs::Texts::anchor_text, value_text::specs::Values::value_text, value_text::specs::Words::word_text))]
 pub fn put_slot(out: &mut TextWriter<'_>, page: Page, slot: Option<ReadAnchor>)
     requires { Room out.old 87 }
     ensures { Puts out.old out.new 87 (slot_text page slot) }

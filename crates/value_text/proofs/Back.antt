@@ -8,10 +8,10 @@ use lib.ListN.{length}
 use Rattle.std.specs.Prelude.{Option, Some, None}
 use Rattle.hash.specs.Ranges.{HashFits, Fits}
 use Rattle.hash.specs.declared.Hash.{Hash}
-use Rattle.head_anchor.specs.Ranges.{BlockHashFits, AnchorFits, SlotFits, SkipFits}
-use Rattle.head_anchor.specs.Values.{anchor_value, block_hash_value, skip_value, slot_value}
-use Rattle.head_anchor.specs.declared.BalSkip.{BalSkip}
-use Rattle.head_anchor.specs.declared.ReadAnchor.{ReadAnchor}
+use Rattle.head_values.specs.Ranges.{BlockHashFits, AnchorFits, SlotFits, SkipFits}
+use Rattle.head_values.specs.Values.{anchor_value, block_hash_value, skip_value, slot_value}
+use Rattle.head_values.specs.declared.BalSkip.{BalSkip}
+use Rattle.head_values.specs.declared.ReadAnchor.{ReadAnchor}
 use Rattle.text.specs.Ascii.{ascii}
 use Rattle.text.specs.Decimals.{decimal}
 use Rattle.text.specs.Rests.{Rest, at, Took, after_byte, after, word_here, says, past_word}

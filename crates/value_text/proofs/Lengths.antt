@@ -6,9 +6,9 @@ use mathlib.Core.Path.{◌≡◌}
 use lib.ListN.{length, length-append}
 use Rattle.hash.specs.declared.Hash.{Hash}
 use Rattle.hash_text.proofs.Back.{length_line_hash, length_sheet_hash}
-use Rattle.head_anchor.specs.Values.{block_hash_value, skip_value, slot_value}
-use Rattle.head_anchor.specs.declared.BalSkip.{BalSkip}
-use Rattle.head_anchor.specs.declared.ReadAnchor.{ReadAnchor}
+use Rattle.head_values.specs.Values.{block_hash_value, skip_value, slot_value}
+use Rattle.head_values.specs.declared.BalSkip.{BalSkip}
+use Rattle.head_values.specs.declared.ReadAnchor.{ReadAnchor}
 use Rattle.text.proofs.Back.{length-decimal}
 use Rattle.value_text.specs.Texts.{anchor_text, block_hash_text, skip_text, slot_text}
 use Rattle.value_text.specs.Values.{hash_text, value_text}

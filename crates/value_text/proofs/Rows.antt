@@ -2,7 +2,7 @@
 use Prim.Native.Nat.{ℕ}
 use mathlib.Core.List.{List, [], ◌∷◌, ◌++◌, append_assoc}
 use mathlib.Core.Path.{◌≡◌, refl, ap, ◌∙◌}
-use Rattle.head_anchor.specs.Values.{Value}
+use Rattle.head_values.specs.Values.{Value}
 use Rattle.text.specs.Ascii.{ascii}
 use Rattle.value_text.specs.Values.{value_text, values_on}
 use Rattle.value_text.specs.declared.page.Page.{Page}

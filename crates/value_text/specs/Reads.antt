@@ -4,11 +4,11 @@ use Rattle.std.specs.Prelude.{ℕ, List, Option, Some, None, cond}
 use Rattle.hash.specs.declared.Hash.{Hash}
 use Rattle.hash_text.specs.LineHashes.{line_hash}
 use Rattle.hash_text.specs.SheetHashes.{sheet_hash}
-use Rattle.head_anchor.specs.Words.{Word}
+use Rattle.head_values.specs.Words.{Word}
 use Rattle.text.specs.Ascii.{ascii}
 use Rattle.text.specs.Rests.{Rest, stopped, Took, after, word_here, says, past_word, read_number}
-use Rattle.head_anchor.specs.declared.BalSkip.{BalSkip}
-use Rattle.head_anchor.specs.declared.ReadAnchor.{ReadAnchor}
+use Rattle.head_values.specs.declared.BalSkip.{BalSkip}
+use Rattle.head_values.specs.declared.ReadAnchor.{ReadAnchor}
 use Rattle.value_text.specs.Words.{word_text}
 use Rattle.value_text.specs.declared.page.Page.{Page}
 

@@ -1,10 +1,10 @@
 -- A name for the text of each value of an anchor, a list or a link.
 use Rattle.hash.specs.declared.Hash.{Hash}
 use Rattle.std.specs.Prelude.{ℕ, List, Option}
-use Rattle.head_anchor.specs.Values.{anchor_value, block_hash_value, fault_value, link_value, skip_value, slot_value}
-use Rattle.head_anchor.specs.declared.BalSkip.{BalSkip}
-use Rattle.head_anchor.specs.declared.Link.{Link}
-use Rattle.head_anchor.specs.declared.ReadAnchor.{ReadAnchor}
+use Rattle.head_values.specs.Values.{anchor_value, block_hash_value, fault_value, link_value, skip_value, slot_value}
+use Rattle.head_values.specs.declared.BalSkip.{BalSkip}
+use Rattle.head_values.specs.declared.Link.{Link}
+use Rattle.head_values.specs.declared.ReadAnchor.{ReadAnchor}
 use Rattle.value_text.specs.Values.{value_text}
 use Rattle.value_text.specs.declared.page.Page.{Page}
 

@@ -3,7 +3,7 @@ use Rattle.std.specs.Prelude.{ℕ, List, [], ◌∷◌, ◌++◌}
 use Rattle.hash.specs.declared.Hash.{Hash}
 use Rattle.hash_text.specs.LineHashes.{line_hash_text}
 use Rattle.hash_text.specs.SheetHashes.{sheet_hash_text}
-use Rattle.head_anchor.specs.Values.{Value}
+use Rattle.head_values.specs.Values.{Value}
 use Rattle.text.specs.Ascii.{ascii}
 use Rattle.text.specs.Decimals.{decimal}
 use Rattle.value_text.specs.Words.{word_text}

@@ -1,6 +1,6 @@
 -- Document 01, "Lines": its words, as they are written.
 use Rattle.std.specs.Prelude.{ℕ, List}
-use Rattle.head_anchor.specs.Words.{Word}
+use Rattle.head_values.specs.Words.{Word}
 use Rattle.text.specs.Ascii.{ascii}
 
 unfoldable pub word_text : Word → List ℕ

@@ -1,12 +1,12 @@
 // Anchors as text.
-#![tactic(auto, using(text_put::proofs::Writers::wrote_both), unfolding(crate::specs::Texts::block_hash_text, head_anchor::specs::Values::block_hash_value, crate::specs::Values::value_text, crate::specs::Words::word_text, crate::specs::Texts::anchor_text, head_anchor::specs::Values::anchor_value))]
+#![tactic(auto, using(text_put::proofs::Writers::wrote_both), unfolding(crate::specs::Texts::block_hash_text, head_values::specs::Values::block_hash_value, crate::specs::Values::value_text, crate::specs::Words::word_text, crate::specs::Texts::anchor_text, head_values::specs::Values::anchor_value))]
 
 ghost use Rattle.value_text.specs.Texts.{block_hash_text, anchor_text};
 ghost use Rattle.text_put.specs.Writers.{Puts, Room};
 
 use crate::page::{Page, put_hash_on};
 use hash::Hash;
-use head_anchor::ReadAnchor;
+use head_values::ReadAnchor;
 use number_text::put_decimal;
 use text_put::TextWriter;
 

@@ -1,2 +1,0 @@
--- Document 01, "Lifecycle": `snapshot`. All of it is the paper's.
-pub mod Snapshot
