@@ -5,7 +5,8 @@ use Prim.Native.Nat.{ℕ}
 use native.Mathlib.Omega.{arith}
 use mathlib.Core.List.{List, [], ◌++◌}
 use mathlib.Core.Path.{◌≡◌, refl, ap, sym, ◌∙◌}
-use Rattle.head_driver.specs.Answers.{outcome_said, said, stats_values}
+use Rattle.head_driver.specs.Answers.{said, stats_values}
+use Rattle.head_ready.specs.Said.{outcome_said}
 use Rattle.script_back.proofs.Counters.{spaced_back, spaced_run, stats_back}
 use Rattle.script_back.proofs.Outcomes.{end_back, link_back, outcome_back, readiness_back, report_back, source_back}
 use Rattle.value_text.proofs.Back.{anchor_back, slot_back}

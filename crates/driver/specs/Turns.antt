@@ -1,9 +1,14 @@
 -- Document 01, "Lines (added)", "Turned away by the input": a line's answer, the next driver and the sheet buffer.
-use Rattle.std.specs.Prelude.{ℕ, List, ◌≡◌, Option, Some, None}
+use Rattle.std.specs.Prelude.{ℕ, List, [], ◌++◌, ◌≡◌, Option, Some, None}
+use Rattle.head_values.specs.Said.{Said, turned_away, within}
+use Rattle.head_driver.specs.Answers.{said}
 use Rattle.head_step.specs.Steps.{step}
+use Rattle.text.specs.Ascii.{ascii}
 use Rattle.script_call.specs.Calls.{call}
 use Rattle.script_sheet.specs.Sheets.{sheet_text}
 use Rattle.script_value.specs.Buffers.{buffer_after, written}
+use Rattle.script_value.specs.Lines.{said_text}
+use Rattle.script_answer.specs.Answers.{line_text}
 use Rattle.head_driver.specs.declared.Driver.{Driver}
 use Rattle.head_driver.specs.declared.Reply.{Reply}
 use Rattle.script_call.specs.declared.LineCall.{LineCall}
@@ -34,7 +39,29 @@ sheet_after d None buf = buf
 sheet_after d (Some LineCall.Sheet) buf = buffer_after 4096 buf (sheet_text d)
 sheet_after d (Some (LineCall.Make c)) buf = buf
 
+-- what is said of a line's answer: an answer line, or the sheet, so many bytes of it, which has none
+pub data LineSaid : Type 0 where
+  answer : Said LineAnswer → LineSaid
+  sheet : ℕ → LineSaid
+
+-- "1 line is no call", "4 sheet buffer shorter than 4,096 bytes"; a call's answer says what `said` gives
+unfoldable pub line_said : LineAnswer → LineSaid
+line_said (LineAnswer.Said a) = LineSaid.answer (within LineAnswer.Said (said a))
+line_said LineAnswer.NoCall = LineSaid.answer (turned_away LineAnswer.NoCall 1 [])
+line_said LineAnswer.SheetTooShort = LineSaid.answer (turned_away LineAnswer.SheetTooShort 4 [])
+line_said (LineAnswer.Sheet n) = LineSaid.sheet n
+
+-- the line that is printed of what is said
+unfoldable pub said_line : LineSaid → List ℕ
+said_line (LineSaid.answer s) = said_text s ++ ascii "\n"
+said_line (LineSaid.sheet n) = []
+
+-- A law, proved in `proofs/Turned`: what is said of an answer is what its line says.
+abbrev pub LineSays : Type 0
+LineSays = (a : LineAnswer) → line_text a ≡ said_line (line_said a)
+
 -- what is promised of a line, the sheet buffer as it was and as it is, and the turn
 pub record Takes (d : Driver) (line old new : List ℕ) (r : Turn) : Type 0 where
-  pub turned : r ≡ turn_of d (call line) old
+  pub driver : r.driver ≡ (turn_of d (call line) old).driver
+  pub answer : line_said r.answer ≡ line_said (turn_of d (call line) old).answer
   pub sheet : new ≡ sheet_after d (call line) old

@@ -42,7 +42,7 @@ pub(crate) fn sheet_answer(written: Option<usize>) -> LineAnswer
 
 // A line without its line feed. Only `(sheet)` looks at the sheet buffer.
 // Kept out of its caller: inlined there it costs one copy of the driver more for each line.
-#[tactic(auto, unfolding(crate::specs::Turns::turn_of, crate::specs::Turns::sheet_after))]
+#[tactic(auto, using(crate::proofs::Turned::takes, head_driver::proofs::Replied::reply_exact), unfolding(crate::specs::Turns::turn_of, crate::specs::Turns::sheet_after))]
 #[inline(never)]
 pub fn take_line(d: Driver, line: &[u8], sheet: &mut [u8]) -> Turn
     ensures { Takes d line.now sheet.old sheet.new result }

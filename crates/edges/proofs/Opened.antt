@@ -17,6 +17,9 @@ use Rattle.head_life.specs.Release as ReleaseLife
 use Rattle.head_life.specs.Apply as ApplyLife
 use Rattle.head_life.specs.Views
 use Rattle.head_life.specs.Completion
+use Rattle.head_attempt.specs.Said as EndSaid
+use Rattle.head_ready.specs.Said as ReadySaid
+use Rattle.head_current.specs.Said as ReportSaid
 use Rattle.head_driver.specs.Answers as Said
 use Rattle.head_driver.specs.Moved
 use Rattle.head_driver.specs.New
@@ -78,7 +81,7 @@ life = tt
 
 -- the calls
 unfoldable calls : Unit {0}
-unfolding Said.readiness_value Said.source_value Said.end_value Said.report_value Said.stats_values Said.outcome_said Said.said Moved.woken_waiters Moved.moved New.new
+unfolding ReadySaid.readiness_value ReadySaid.source_value EndSaid.end_value ReportSaid.report_value ReadySaid.outcome_said Said.stats_values Said.said Moved.woken_waiters Moved.moved New.new
     DriverParts.with_life Deliver.deliver Claim.claim_answer Claim.claim Release.release Apply.apply_settled Apply.apply_planned Apply.apply Snapshot.viewed
     Snapshot.snapshot WaiterParts.waiter_at WaiterParts.put Waits.readiness_by_wait Waits.shown_by_wait Waits.view_frees Waits.waits_anew Waits.abandoned_view
     Waits.wait_as Waits.wait Waits.resume_as Waits.resume Asks.completion Asks.link Asks.report Asks.stats Asks.heads Steps.step

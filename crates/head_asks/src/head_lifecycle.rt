@@ -10,21 +10,21 @@ use head_ready::delta_snapshot::slot_anchor;
 use head_values::ReadAnchor;
 use head_values::read_hub::classify_link;
 
-#[tactic(auto, using(head_driver::proofs::Replied::replied), unfolding(crate::specs::Asks::completion))]
+#[tactic(auto, using(head_driver::proofs::Replied::replied, head_attempt::proofs::Said::completion_exact), unfolding(crate::specs::Asks::completion))]
 pub fn completion(d: Driver, anchor: ReadAnchor) -> Reply
     ensures { Replies result (completion d anchor) }
 {
     answered(d, Answer::Completion(d.life.completion(anchor)))
 }
 
-#[tactic(auto, using(head_driver::proofs::Replied::replied), unfolding(crate::specs::Asks::link))]
+#[tactic(auto, using(head_driver::proofs::Replied::replied, head_values::proofs::Said::link_exact), unfolding(crate::specs::Asks::link))]
 pub fn link(d: Driver, parent: Option<ReadAnchor>, child: ReadAnchor, parent_hash: Hash) -> Reply
     ensures { Replies result (link d parent child parent_hash) }
 {
     answered(d, Answer::Link(classify_link(parent, child, parent_hash)))
 }
 
-#[tactic(auto, using(head_driver::proofs::Replied::replied), unfolding(crate::specs::Asks::report))]
+#[tactic(auto, using(head_driver::proofs::Replied::replied, head_current::proofs::Said::report_exact), unfolding(crate::specs::Asks::report))]
 pub fn report(d: Driver) -> Reply
     ensures { Replies result (report d) }
 {

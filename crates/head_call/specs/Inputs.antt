@@ -1,16 +1,21 @@
 -- Document 01, "Turned away by the input", as a function of the call alone: "Apply tests 2, ..", "Wait tests 3, ..; resume 3, ..". (1 and 4
 -- are of lines and of the sheet's buffer.) That this is what `step` answers is a law: `head_step/specs/Statements`.
-use Rattle.std.specs.Prelude.{ℕ, ltb, cond, not, Option, None, Some}
+use Rattle.std.specs.Prelude.{ℕ, [], ltb, cond, not, Option, None, Some}
 use Rattle.head_values.specs.Lists.{as_prepared}
+use Rattle.head_values.specs.Said.{Said, turned_away}
 use Rattle.head_values.specs.declared.PreparedBal.{PreparedBal}
 use Rattle.head_call.specs.declared.Call.{Call}
 use Rattle.head_call.specs.declared.InputRefusal.{InputRefusal}
 
--- 0 where the input is taken
+-- "2 list and anchor disagree on `no-hash`; 3 waiter number above 15"
+unfoldable pub refusal_said : InputRefusal → Said InputRefusal
+refusal_said InputRefusal.ListDisagrees = turned_away InputRefusal.ListDisagrees 2 []
+refusal_said InputRefusal.WaiterAbove15 = turned_away InputRefusal.WaiterAbove15 3 []
+
+-- the refusal's number, or 0 where the input is taken
 unfoldable pub input_number : Option InputRefusal → ℕ
 input_number None = 0
-input_number (Some InputRefusal.ListDisagrees) = 2
-input_number (Some InputRefusal.WaiterAbove15) = 3
+input_number (Some refusal) = (refusal_said refusal).number
 
 -- "2 list and anchor disagree on `no-hash`"
 unfoldable pub list_refusal : PreparedBal → Option InputRefusal

@@ -1,13 +1,14 @@
 // Which calls their input alone turns away. In the Rust most calls are methods, and such input cannot be made there.
 ghost use Rattle.std.specs.Prelude.{◌≡◌, None, Some};
-ghost use Rattle.head_call.specs.Inputs.{input_number, input_refusal, list_refusal, waiter_refusal};
+ghost use Rattle.std.specs.Option.{option_map};
+ghost use Rattle.head_call.specs.Inputs.{input_number, input_refusal, list_refusal, refusal_said, waiter_refusal};
 
 use crate::{Call, InputRefusal};
 use head_values::PreparedBal;
 use head_values::read_hub::as_prepared;
 
 // The refusal's number, or 0 where the input is taken: document 01's numbers, which a host is told.
-#[tactic(auto, unfolding(crate::specs::Inputs::input_number))]
+#[tactic(auto, unfolding(crate::specs::Inputs::input_number, crate::specs::Inputs::refusal_said))]
 pub fn input_number(refusal: Option<InputRefusal>) -> u64
     ensures { result ≡ input_number refusal }
 {
@@ -35,7 +36,7 @@ pub(crate) fn waiter_refusal(n: u64) -> Option<InputRefusal>
 // Asked before the state is looked at.
 #[tactic(auto, unfolding(crate::specs::Inputs::input_refusal))]
 pub fn input_refusal(call: Call) -> Option<InputRefusal>
-    ensures { result ≡ input_refusal call }
+    ensures { option_map refusal_said result ≡ option_map refusal_said (input_refusal call) }
 {
     match call {
         Call::Apply(_, list, _, _, _) => list_refusal(list),

@@ -1,6 +1,7 @@
 // From head_lifecycle.rs: `BalHeadDriver::deliver`, the claim of `advance_with_relevance`, the drop of a `PrepareClaim`, and
 // `BalHeadDriver::apply_members`. A call takes the driver by value and gives it back with its answer.
-ghost use Rattle.head_calls.specs.Apply.{apply};
+ghost use Rattle.std.specs.Prelude.{◌≡◌};
+ghost use Rattle.head_calls.specs.Apply.{apply, apply_settled};
 ghost use Rattle.head_calls.specs.Claim.{claim};
 ghost use Rattle.head_calls.specs.Deliver.{deliver};
 ghost use Rattle.head_calls.specs.Release.{release};
@@ -11,12 +12,12 @@ use head_attempt::HeadCompletion;
 use head_current::{HeadTicket, PrepareClaim};
 use head_driver::head_lifecycle::answered;
 use head_driver::{Answer, Driver, Reply};
-use head_life::ApplyPlan;
+use head_life::{ApplyPlan, HeadLifecycle};
 use head_ready::HeadOutcome;
 use head_ready::delta_snapshot::slot_anchor;
 use head_values::delta_snapshot::apply_prepared;
 use head_values::read_hub::as_prepared;
-use head_values::{PreparedBal, ReadAnchor};
+use head_values::{CarryOutcome, PreparedBal, ReadAnchor};
 
 #[tactic(auto, using(head_driver::proofs::Replied::replied), unfolding(crate::specs::Deliver::deliver))]
 pub fn deliver(d: Driver, anchor: ReadAnchor, parent_hash: Hash, cold: u64) -> Reply
@@ -29,7 +30,7 @@ pub fn deliver(d: Driver, anchor: ReadAnchor, parent_hash: Hash, cold: u64) -> R
     )
 }
 
-#[tactic(auto, using(head_driver::proofs::Replied::replied), unfolding(crate::specs::Claim::claim, crate::specs::Claim::claim_answer, head_driver::specs::Parts::with_life))]
+#[tactic(auto, using(head_driver::proofs::Replied::replied, head_life::proofs::Said::start_exact), unfolding(crate::specs::Claim::claim, crate::specs::Claim::claim_answer, head_driver::specs::Parts::with_life))]
 pub fn claim(mut d: Driver, ticket: HeadTicket) -> Reply
     ensures { Replies result (claim d ticket) }
 {
@@ -49,8 +50,28 @@ pub fn release(d: Driver, owner: PrepareClaim) -> Reply
     answered(d.moved(life, HeadCompletion::Abandoned), Answer::Done)
 }
 
+// The head settles with that outcome, and so does its preparation. Inlined, since called it copies the driver in and out.
+#[inline(always)]
+#[tactic(auto, unfolding(crate::specs::Apply::apply_settled))]
+pub(crate) fn apply_settled(
+    d: Driver,
+    life: HeadLifecycle,
+    anchor: ReadAnchor,
+    outcome: CarryOutcome,
+    handle: u64,
+    report: u64,
+) -> Reply
+    ensures { result ≡ apply_settled d life anchor outcome handle report }
+{
+    let next = life.record_settle(anchor, outcome, handle, report);
+    answered(
+        d.moved(next, HeadCompletion::Settled),
+        Answer::Outcome(HeadOutcome::Settled(outcome)),
+    )
+}
+
 // `handle`, `carried` and `report` are the host's numbers for the new hub, for what it carried over and for the report.
-#[tactic(auto, using(head_driver::proofs::Replied::replied), unfolding(crate::specs::Apply::apply, crate::specs::Apply::apply_planned, crate::specs::Apply::apply_settled, head_driver::specs::Parts::with_life))]
+#[tactic(auto, using(head_driver::proofs::Replied::replied, head_life::proofs::Said::plan_exact, head_values::proofs::Said::settled_exact), unfolding(crate::specs::Apply::apply, crate::specs::Apply::apply_planned, head_driver::specs::Parts::with_life))]
 pub fn apply(
     mut d: Driver,
     ticket: HeadTicket,
@@ -79,11 +100,7 @@ pub fn apply(
                 list.skip,
                 carried,
             );
-            let next = life.record_settle(held.anchor, outcome, handle, report);
-            answered(
-                d.moved(next, HeadCompletion::Settled),
-                Answer::Outcome(HeadOutcome::Settled(outcome)),
-            )
+            apply_settled(d, life, held.anchor, outcome, handle, report)
         }
     }
 }

@@ -1,7 +1,9 @@
 // From head_lifecycle.rs: the methods of `HeadDelivery` and `CurrentHead`, each by value.
 ghost use Rattle.std.specs.Prelude.{◌≡◌, Some};
+ghost use Rattle.head_attempt.specs.Said.{completion_said};
 ghost use Rattle.head_current.specs.Heads.{anchor_of, current_report, delivery, has_ticket, is_preparing, is_unsettled, preparing_at, published};
 ghost use Rattle.head_current.specs.Parts.{settled_of};
+ghost use Rattle.head_current.specs.Said.{report_said};
 ghost use Rattle.head_current.specs.declared.CurrentHead.{CurrentHead};
 ghost use Rattle.head_current.specs.Moves.{claimed_head, published_abandonment, released_head, settled_head};
 
@@ -81,7 +83,7 @@ impl CurrentHead {
     // The end that the current attempt has published.
     #[tactic(auto, unfolding(crate::specs::Heads::published))]
     pub fn published(self) -> HeadCompletion
-        ensures { result ≡ published self }
+        ensures { completion_said result ≡ completion_said (published self) }
     {
         match self {
             CurrentHead::Absent => HeadCompletion::Open,
@@ -92,7 +94,7 @@ impl CurrentHead {
 
     #[tactic(auto, unfolding(crate::specs::Heads::current_report))]
     pub fn report(self) -> Option<DeltaReport>
-        ensures { result ≡ current_report self }
+        ensures { report_said result ≡ report_said (current_report self) }
     {
         match self {
             CurrentHead::Absent | CurrentHead::Unclaimed(_) | CurrentHead::Preparing(_) => None,

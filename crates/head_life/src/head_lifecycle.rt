@@ -1,12 +1,15 @@
 // From head_lifecycle.rs: the methods of `HeadLifecycle`. Each takes the lifecycle by value and gives the next one, beside its answer where it has one.
 ghost use Rattle.std.specs.Prelude.{◌≡◌};
+ghost use Rattle.head_attempt.specs.Said.{completion_said};
 ghost use Rattle.head_life.specs.Apply.{plan_apply, previous_after, record_settle, settled_readiness};
 ghost use Rattle.head_life.specs.Claim.{claim_life};
 ghost use Rattle.head_life.specs.Completion.{completion_at};
 ghost use Rattle.head_life.specs.Deliver.{deliver_life, new_head};
 ghost use Rattle.head_life.specs.Release.{release_life};
+ghost use Rattle.head_life.specs.Said.{Plans, Starts};
 ghost use Rattle.head_life.specs.State.{counted, view_counted};
 ghost use Rattle.head_life.specs.Views.{current_view, generation_view, spare_view, view};
+ghost use Rattle.head_ready.specs.Said.{view_said};
 
 use crate::{ApplyPlan, HeadLifecycle};
 use hash::Hash;
@@ -158,9 +161,9 @@ impl HeadLifecycle {
     }
 
     // The epoch of the attempt that starts, or why none does.
-    #[tactic(auto, unfolding(crate::specs::Claim::claim_life, crate::specs::Claim::claim_held, head_current::specs::Heads::delivery, head_current::specs::Heads::is_settled, head_current::specs::Heads::is_preparing, head_values::specs::Anchors::holds, head_values::specs::Anchors::same_anchor, hash::specs::Hashes::same_hash))]
+    #[tactic(auto, using(crate::proofs::Said::starts), unfolding(crate::specs::Claim::claim_life, crate::specs::Claim::claim_held, head_current::specs::Heads::delivery, head_current::specs::Heads::is_settled, head_current::specs::Heads::is_preparing, head_values::specs::Anchors::holds, head_values::specs::Anchors::same_anchor, hash::specs::Hashes::same_hash))]
     pub fn claim(self, ticket: HeadTicket) -> (HeadLifecycle, Result<Epoch, HeadOutcome>)
-        ensures { result ≡ claim_life self ticket }
+        ensures { Starts result (claim_life self ticket) }
     {
         let Some(held) = self.current.delivery() else {
             return (self, Err(HeadOutcome::Superseded(ticket.anchor)));
@@ -196,9 +199,9 @@ impl HeadLifecycle {
     }
 
     // Which applies the state turns away. The refusals 11 and 12 are counted.
-    #[tactic(auto, unfolding(crate::specs::Apply::plan_apply, crate::specs::Apply::plan_held, head_values::specs::Anchors::holds, head_values::specs::Anchors::same_anchor, hash::specs::Hashes::same_hash))]
+    #[tactic(auto, using(crate::proofs::Said::plans), unfolding(crate::specs::Apply::plan_apply, crate::specs::Apply::plan_held, head_values::specs::Anchors::holds, head_values::specs::Anchors::same_anchor, hash::specs::Hashes::same_hash))]
     pub fn plan_apply(self, ticket: HeadTicket, prepared: ReadAnchor) -> (HeadLifecycle, ApplyPlan)
-        ensures { result ≡ plan_apply self ticket prepared }
+        ensures { Plans result (plan_apply self ticket prepared) }
     {
         let Some(held) = self.current.delivery() else {
             let refused = ApplyPlan::Refused(HeadOutcome::Superseded(ticket.anchor));
@@ -257,7 +260,7 @@ impl HeadLifecycle {
     // generation that the host made for this call.
     #[tactic(auto, unfolding(crate::specs::Views::view))]
     pub fn view_at(self, anchor: ReadAnchor, spare: u64) -> HeadView
-        ensures { result ≡ view self anchor spare }
+        ensures { view_said result ≡ view_said (view self anchor spare) }
     {
         let fresh = spare_view(self.superseded, anchor, spare);
         let older = generation_view(Source::Previous, self.previous, anchor, fresh);
@@ -275,9 +278,9 @@ impl HeadLifecycle {
     }
 
     // How the current attempt ended, if the head is at that anchor.
-    #[tactic(auto, unfolding(crate::specs::Completion::completion_at, head_values::specs::Anchors::holds, head_values::specs::Anchors::same_anchor, hash::specs::Hashes::same_hash))]
+    #[tactic(auto, using(head_attempt::proofs::Said::completion_exact), unfolding(crate::specs::Completion::completion_at, head_values::specs::Anchors::holds, head_values::specs::Anchors::same_anchor, hash::specs::Hashes::same_hash))]
     pub fn completion(self, anchor: ReadAnchor) -> HeadCompletion
-        ensures { result ≡ completion_at self anchor }
+        ensures { completion_said result ≡ completion_said (completion_at self anchor) }
     {
         if self.current.anchor() == Some(anchor) {
             self.current.published()

@@ -5,4 +5,5 @@ pub mod Links
 pub mod Lists
 pub mod Words
 pub mod Values
+pub mod Said
 pub mod Ranges

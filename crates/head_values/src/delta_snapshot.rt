@@ -1,6 +1,7 @@
 // From delta_snapshot.rs: the outcome of `DeltaSnapshotCache::apply_prepared`.
 ghost use Rattle.std.specs.Prelude.{◌≡◌};
 ghost use Rattle.head_values.specs.Lists.{outcome, apply_prepared};
+ghost use Rattle.head_values.specs.Said.{settled_said};
 
 use crate::read_hub::classify_link;
 use crate::{BalSkip, CarryOutcome, Link, ReadAnchor};
@@ -16,7 +17,7 @@ pub(crate) fn outcome(link: Link, skip: BalSkip, carried: u64) -> CarryOutcome
     }
 }
 
-#[tactic(auto, unfolding(crate::specs::Lists::apply_prepared))]
+#[tactic(auto, using(crate::proofs::Said::link_exact), unfolding(crate::specs::Lists::apply_prepared))]
 pub fn apply_prepared(
     installed: Option<ReadAnchor>,
     anchor: ReadAnchor,
@@ -24,7 +25,7 @@ pub fn apply_prepared(
     skip: BalSkip,
     carried: u64,
 ) -> CarryOutcome
-    ensures { result ≡ apply_prepared installed anchor parent_hash skip carried }
+    ensures { settled_said result ≡ settled_said (apply_prepared installed anchor parent_hash skip carried) }
 {
     outcome(classify_link(installed, anchor, parent_hash), skip, carried)
 }

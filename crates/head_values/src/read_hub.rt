@@ -2,6 +2,7 @@
 ghost use Rattle.std.specs.Prelude.{◌≡◌};
 ghost use Rattle.head_values.specs.Links.{classify_link, follows};
 ghost use Rattle.head_values.specs.Lists.{as_prepared};
+ghost use Rattle.head_values.specs.Said.{link_said};
 
 use crate::{BalSkip, Link, PreparedBal, ReadAnchor};
 use hash::Hash;
@@ -16,7 +17,7 @@ pub(crate) fn follows(parent: u64, child: u64) -> bool
 
 #[tactic(auto, unfolding(crate::specs::Links::classify_link, crate::specs::Links::link_by_hash, hash::specs::Hashes::same_hash))]
 pub fn classify_link(parent: Option<ReadAnchor>, child: ReadAnchor, parent_hash: Hash) -> Link
-    ensures { result ≡ classify_link parent child parent_hash }
+    ensures { link_said result ≡ link_said (classify_link parent child parent_hash) }
 {
     let Some(parent) = parent else {
         return Link::NoParent;

@@ -21,7 +21,7 @@ pub(crate) fn viewed(mut d: Driver, view: HeadView, shown: HeadView) -> Reply
     answered(d, Answer::View(shown))
 }
 
-#[tactic(auto, using(head_driver::proofs::Replied::replied), unfolding(crate::specs::Snapshot::snapshot))]
+#[tactic(auto, using(head_driver::proofs::Replied::replied, head_ready::proofs::Said::view_exact), unfolding(crate::specs::Snapshot::snapshot))]
 pub fn snapshot(d: Driver, anchor: ReadAnchor, spare: u64) -> Reply
     ensures { Replies result (snapshot d anchor spare) }
 {
@@ -80,7 +80,7 @@ pub(crate) fn view_frees(d: Driver, n: u64, view: HeadView, shown: HeadView) -> 
 }
 
 // One turn of the Rust's loop: park on the live preparation at that anchor, or answer.
-#[tactic(auto, unfolding(crate::specs::Waits::waits_anew))]
+#[tactic(auto, using(head_ready::proofs::Said::view_exact), unfolding(crate::specs::Waits::waits_anew))]
 pub(crate) fn waits_anew(d: Driver, n: u64, anchor: ReadAnchor, spare: u64) -> Reply
     ensures { result ≡ waits_anew d n anchor spare }
 {
@@ -108,7 +108,7 @@ pub fn wait(d: Driver, n: u64, anchor: ReadAnchor, spare: u64) -> Reply
 }
 
 // One match over document 01's four cases, each with a value of its own.
-#[tactic(auto, using(head_driver::proofs::Replied::replied), unfolding(crate::specs::Waits::resume, crate::specs::Waits::resume_as, crate::specs::Parts::waiter_at))]
+#[tactic(auto, using(head_driver::proofs::Replied::replied, head_ready::proofs::Said::view_exact), unfolding(crate::specs::Waits::resume, crate::specs::Waits::resume_as, crate::specs::Parts::waiter_at))]
 pub fn resume(d: Driver, n: u64, spare: u64) -> Reply
     ensures { Replies result (resume d n spare) }
 {

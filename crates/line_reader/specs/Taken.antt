@@ -1,5 +1,5 @@
--- Document 01, "Lines": a reader record borrowing the line and counting bytes taken. The word that stands next, and the reader once that word's bytes are taken.
-use Rattle.std.specs.Prelude.{ℕ, ◌+◌, List, length, drop, Option, Some, None}
+-- Document 01, "Lines": a reader record borrowing the line and counting bytes taken. The word that stands next, and the reader once that word's bytes are taken; and the same of a byte.
+use Rattle.std.specs.Prelude.{ℕ, ◌+◌, Bool, false, List, [], ◌∷◌, eqb, length, drop, Option, Some, None}
 use Rattle.text.specs.Words.{word}
 use Rattle.line_reader.specs.declared.LineReader.{LineReader}
 
@@ -14,6 +14,15 @@ took n r = record { line = r.line; taken = r.taken + n }
 -- the line stays, and the word's bytes are taken
 abbrev pub took_word : LineReader → LineReader
 took_word r = took (length (word_next r)) r
+
+-- the bytes start with that one
+unfoldable pub begins : ℕ → List ℕ → Bool
+begins byte [] = false
+begins byte (b ∷ s) = eqb b byte
+
+-- whether that byte stands next
+abbrev pub stands_next : ℕ → LineReader → Bool
+stands_next byte r = begins byte (drop r.taken r.line.now)
 
 -- one byte is taken where it was found, and else none
 abbrev pub took_byte : {A : Type 0} → Option A → LineReader → LineReader

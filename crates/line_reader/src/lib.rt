@@ -3,8 +3,8 @@
 // Knows nothing of numbers, hashes or calls.
 #![tactic(auto)]
 
-ghost use Rattle.std.specs.Prelude.{[], ◌∷◌, ◌≡◌, cond, drop};
-ghost use Rattle.line_reader.specs.Taken.{word_next, took_word, took_byte};
+ghost use Rattle.std.specs.Prelude.{[], ◌∷◌, ◌≡◌, cond, drop, is_some};
+ghost use Rattle.line_reader.specs.Taken.{stands_next, took_byte, took_word, word_next};
 ghost use Rattle.line_reader.specs.Reads.{rest, rest_after};
 ghost use Rattle.text.specs.Rests.{after, at_end, past_word, says, word_here};
 
@@ -52,8 +52,9 @@ impl<'a> LineReader<'a> {
     }
 
     // Takes one byte where it stands next; nothing is taken where another does, or none.
-    #[tactic(auto, using(crate::proofs::Lines::byte_end, crate::proofs::Lines::byte_other, crate::proofs::Lines::byte_on))]
+    #[tactic(auto, using(crate::proofs::Lines::begins_end, crate::proofs::Lines::begins_other, crate::proofs::Lines::begins_so, crate::proofs::Lines::byte_end, crate::proofs::Lines::byte_other, crate::proofs::Lines::byte_on))]
     pub fn past_byte(&mut self, byte: u8) -> Option<()>
+        ensures found { is_some result ≡ stands_next byte self.old }
         ensures reader { self.new ≡ took_byte result self.old }
         ensures rest { after (byte ∷ []) (rest self.old) ≡ rest_after result self.new }
     {

@@ -1,2 +1,4 @@
--- The proof.
+-- The proofs. Settles: what is installed stays until an apply settles. Redelivered: a delivery leaves it, and a snapshot reads it. AfterLines: the same over lines.
+pub mod Settles
 pub mod Redelivered
+pub mod AfterLines

@@ -6,7 +6,8 @@ use mathlib.Core.Path.{◌≡◌, refl, ap}
 use lib.ListN.{get_or}
 use Rattle.answer_back.proofs.Forms.{line_form}
 use Rattle.script_answer.specs.Answers.{line_text}
-use Rattle.head_driver.specs.Answers.{outcome_said, said}
+use Rattle.head_driver.specs.Answers.{said}
+use Rattle.head_ready.specs.Said.{outcome_said}
 use Rattle.script_value.specs.Lines.{refusal_on}
 use Rattle.value_text.specs.Texts.{anchor_text}
 use Rattle.value_text.specs.Values.{values_on}

@@ -69,7 +69,7 @@ is_sheet : (line : List ℕ) → call line ≡ Some LineCall.Sheet → ¬ (no_ca
 unfolding sheet_call_text
 is_sheet line e n = n.0 (sheet_only line e)
 
-is_call : (line : List ℕ) (c : Call) → call line ≡ Some (LineCall.Make c) → ¬ (no_call line).applies
+pub is_call : (line : List ℕ) (c : Call) → call line ≡ Some (LineCall.Make c) → ¬ (no_call line).applies
 is_call line c e n = n.1 c (rw e at (call_range line)) (call_only line c e)
 
 sheet_got : (d : Driver) (buffer : List ℕ) (t : Test) → (¬ t.applies) → Got d (t ∷ (too_short buffer ∷ [])) (Some LineCall.Sheet) buffer

@@ -1,14 +1,18 @@
 -- What is proved of refusals: demand 1 over lines.
-use Rattle.std.specs.Prelude.{ℕ, List, ◌↔◌, ◌≡◌, Option}
+use Rattle.std.specs.Prelude.{ℕ, List, [], ◌↔◌, ◌≡◌, Option, Some}
 use Rattle.alike.specs.Invariant.{Invariant}
 use Rattle.driver.specs.Turns.{sheet_after, turn_of}
 use Rattle.script_answer.specs.Answers.{line_text}
 use Rattle.head_current.specs.Heads.{delivery}
 use Rattle.script_call.specs.Calls.{call}
 use Rattle.driver.specs.declared.Turn.{Turn}
+use Rattle.head_call.specs.declared.Call.{Call}
+use Rattle.head_current.specs.declared.HeadTicket.{HeadTicket}
+use Rattle.head_driver.specs.New.{new}
 use Rattle.head_driver.specs.declared.Driver.{Driver}
 use Rattle.script_call.specs.declared.LineCall.{LineCall}
-use Rattle.rules.specs.Refusals.{FirstThatApplies, HeadInstalled, IsSettled, Refusal, after_refusal, tests}
+use Rattle.rules.specs.Refusals.{FirstThatApplies, HeadInstalled, IsSettled, Refusal, after_refusal, superseded, tests}
+use Rattle.rules.specs.Runs.{Entry, after, turn_at}
 use Rattle.rules.specs.Said.{Says, line_refusal}
 
 -- after a refusal the driver is as it was but for discarded, and the sheet buffer keeps every byte
@@ -27,6 +31,13 @@ pub record TurnedAs (d : Driver) (line buffer : List ℕ) (got : Turn) (after : 
 -- Every driver, line and buffer.
 abbrev pub TurnedAway : Type 0
 TurnedAway = (d : Driver) (line buffer : List ℕ) → TurnedAs d line buffer (turn_of d (call line) buffer) (sheet_after d (call line) buffer)
+
+-- In every driver that lines bring from a new one, a claim's 13 is exactly "the head is installed": a line that claims is refused so exactly where 11,
+-- which a claim tests first, does not apply and the head is installed.
+abbrev pub ClaimsInstalled : Type 0
+ClaimsInstalled = (es : List Entry) (e : Entry) (ticket : HeadTicket) → call e.line ≡ Some (LineCall.Make (Call.Claim ticket))
+    → (line_refusal (turn_at (after new es) e).answer ≡ Refusal.refused 13 [])
+    ↔ ((¬ (superseded (delivery (after new es).life.current) ticket).applies) × HeadInstalled (after new es).life.installed (delivery (after new es).life.current))
 
 -- In a driver that keeps the invariant a settled head is installed, so a claim's 13 is just that the head is installed.
 abbrev pub SettledInstalled : Type 0

@@ -8,11 +8,12 @@ use mathlib.Core.Logic.{◌⊎◌, inl, inr}
 use mathlib.Core.Path.{◌≡◌, refl, ap, sym, ◌∙◌}
 use lib.ListN.{length, take, take-append-drop}
 use lib.Seq.{slice, take-take}
+use Rattle.std.proofs.lemmas.Bool.{true≢false}
 use Rattle.text.proofs.Writes.{nothing, then}
 use Rattle.pending.specs.Kept.{Keeps}
 use Rattle.pending.specs.declared.Kept.{Kept}
 use Rattle.head_driver.specs.declared.Driver.{Driver}
-use Rattle.script.specs.Feeds.{AnswersHeld, Feeds, Reading, TakesSome, reading, all_prints, all_taken, usable}
+use Rattle.script.specs.Feeds.{AnswersHeld, Feeds, Reading, TakesSome, lent, reading, all_prints, all_taken, usable}
 use Rattle.script.specs.declared.Fed.{Fed}
 use Rattle.script.proofs.Cuttings.{taken_append, prints_append}
 use Rattle.script.proofs.Ending.{lent_of}
@@ -37,6 +38,7 @@ module _ (d : Driver) (pending₀ : List ℕ) (held : ℕ) (input out₀ : List 
   pub record Going (pending out : List ℕ) (fed : Fed) : Type 0 where
     pub kept : length pending ≡ length pending₀
     pub room : length out ≡ length out₀
+    pub usable : lent (reading d pending₀ held) out₀ ≡ true
     pub enough : 513 ≤ length pending₀
     pub few : fed.held ≤ 513
     pub within : fed.taken ≤ length input
@@ -48,12 +50,19 @@ module _ (d : Driver) (pending₀ : List ℕ) (held : ℕ) (input out₀ : List 
 
   module _ (t : Bool) (e : t ≡ usable (length pending₀) held (length out₀)) where
     pub not_usable : t ≡ false → TakesSome (reading d pending₀ held) (reading d pending₀ held) input out₀ out₀ first
-    not_usable is = record { within = omega arith; feeds = feeds_none (reading d pending₀ held) out₀; fits = omega arith; stops = inr (inr (sym e ∙ is, refl)) }
+    not_usable is = record {
+      within = omega arith;
+      feeds = feeds_none (reading d pending₀ held) out₀;
+      fits = omega arith;
+      unusable = λ no. record { stays = refl; bytes = refl; taken = refl; written = refl };
+      stops = λ yes. absurd (true≢false (sym yes ∙ sym e ∙ is));
+    }
 
     pub going_first : t ≡ true → Going pending₀ out₀ first
     going_first is = record {
       kept = refl;
       room = refl;
+      usable = sym e ∙ is;
       enough = (lent_of (length pending₀) held (length out₀) t e is).room;
       few = (lent_of (length pending₀) held (length out₀) t e is).few;
       within = omega arith;
@@ -83,6 +92,7 @@ module _ (d : Driver) (pending₀ : List ℕ) (held : ℕ) (input out₀ : List 
         record {
           kept = p ∙ k;
           room = o ∙ m;
+          usable = g.usable;
           enough = g.enough;
           few = f.few;
           within = f.within;
@@ -92,8 +102,7 @@ module _ (d : Driver) (pending₀ : List ℕ) (held : ℕ) (input out₀ : List 
 
     some : (fed.taken ≡ length input) ⊎ (length out₀ < fed.written + 4096)
         → TakesSome (reading d pending₀ held) (reading fed.driver pending fed.held) input out₀ out fed
-    some (inl e) = record { within = g.within; feeds = g.feeds; fits = g.fits; stops = inl e }
-    some (inr e) = record { within = g.within; feeds = g.feeds; fits = g.fits; stops = inr (inl e) }
+    some e = record { within = g.within; feeds = g.feeds; fits = g.fits; unusable = λ no. absurd (true≢false (sym g.usable ∙ no)); stops = λ yes. e }
 
     pub all_taken_lem : length input ≤ fed.taken → TakesSome (reading d pending₀ held) (reading fed.driver pending fed.held) input out₀ out fed
     all_taken_lem h = some (inl (let w = g.within in omega arith))

@@ -5,6 +5,7 @@ use mathlib.Core.Path.{◌≡◌, refl, ap, sym, ◌∙◌}
 use lib.ListN.{length}
 use borrow.Author.Tests.{le-ltb}
 use Rattle.std.specs.Prelude.{Option, Some, None, unwrap_or}
+use Rattle.driver.proofs.Turned.{turned}
 use Rattle.driver.specs.Turns.{Takes, made, sheet_after, sheet_answer, turn_of}
 use Rattle.script_answer.specs.Answers.{line_text}
 use Rattle.script_call.specs.Calls.{call}
@@ -55,4 +56,4 @@ module _ (d : Driver) (old : List ℕ) (room : 4096 ≤ length old) where
   pub prints_line : (line mid new : List ℕ) (t : Turn) (n : ℕ) → Takes d line old mid t → PutsAnswer t.answer mid new n
       → Prints (prints d (call line)) (leaves d (call line)) old new (record { driver = t.driver; written = n })
   prints_line line mid new t n takes p =
-      rw takes.turned (by_call (call line) new n (rw (takes.turned, takes.sheet) at p))
+      rw (turned takes) (by_call (call line) new n (rw (turned takes, takes.sheet) at p))

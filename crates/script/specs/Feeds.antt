@@ -1,5 +1,5 @@
 -- An input byte by byte. The bytes of the line that has not ended are kept, at most 513 of them, at the front of a buffer.
-use Rattle.std.specs.Prelude.{ℕ, ◌+◌, ◌≤◌, ◌<◌, Bool, false, List, [], ◌∷◌, ◌++◌, ◌⊎◌, ◌≡◌, eqb, leb, length, take, cond, ◌&&◌}
+use Rattle.std.specs.Prelude.{ℕ, ◌+◌, ◌≤◌, ◌<◌, Bool, false, true, List, [], ◌∷◌, ◌++◌, ◌⊎◌, ◌≡◌, eqb, leb, length, take, cond, ◌&&◌}
 use Rattle.pending.specs.Kept.{Part, part, keep_byte, line_so_far}
 use Rattle.script_call.specs.Calls.{call}
 use Rattle.script.specs.Parts.{Prints}
@@ -80,10 +80,18 @@ lent s out = usable (length s.kept.buffer) s.kept.held (length out)
 abbrev pub Finishes : Reading → List ℕ → List ℕ → Printed → Type 0
 Finishes s old new r = Prints (cond (lent s old) (last_prints s) []) (cond (lent s old) (last_leaves s) s.driver) old new r
 
--- What is promised of `feed`. How much of the input it takes is left open, since it stops where the room for answers ends: all of it, or what leaves
--- less than 4,096 bytes of room, or nothing, where the host's buffers cannot be used. Of what it takes everything is told.
+-- nothing is taken and nothing written: the driver, the count of what is held and every byte of both buffers stay
+pub record TakesNothing (s t : Reading) (old new : List ℕ) (r : Fed) : Type 0 where
+  pub stays : t ≡ s
+  pub bytes : new ≡ old
+  pub taken : r.taken ≡ 0
+  pub written : r.written ≡ 0
+
+-- What is promised of `feed`. Of what it takes everything is told. Where the host's buffers cannot be used it takes nothing. Where they can, how much
+-- it takes is left open, since it stops where the room for answers ends: all of the input, or what leaves less than 4,096 bytes of room.
 pub record TakesSome (s t : Reading) (input old new : List ℕ) (r : Fed) : Type 0 where
   pub within : r.taken ≤ length input
   pub feeds : Feeds s (take r.taken input) t old new 0 r.written
   pub fits : r.written ≤ length old
-  pub stops : (r.taken ≡ length input) ⊎ ((length old < r.written + 4096) ⊎ ((lent s old ≡ false) × (r.taken ≡ 0)))
+  pub unusable : lent s old ≡ false → TakesNothing s t old new r
+  pub stops : lent s old ≡ true → (r.taken ≡ length input) ⊎ (length old < r.written + 4096)

@@ -10,7 +10,7 @@ ghost use Rattle.text_put.specs.Writers.{Puts, Room};
 use crate::lines::{put_claimed, put_ticket, put_view};
 use crate::outcomes::put_head_outcome;
 use head_driver::Answer;
-use script_reads::put_read;
+use script_reads::lines::{put_completion, put_heads, put_link, put_report_line, put_stats_line};
 use text_put::TextWriter;
 
 mod lines;
@@ -27,7 +27,8 @@ pub enum LineAnswer {
 }
 
 // No answer is longer than `heads`, 271 bytes; every one has the room that a host is asked for, but for the line feed.
-#[tactic(auto, unfolding(script_reads::specs::Parts::read_or_bare))]
+// One match over all answers, in the order of document 01; an answer without values is a word or a refusal's number alone.
+#[tactic(auto, unfolding(script_value::specs::Lines::answer_text, script_value::specs::Lines::said_text, head_driver::specs::Answers::said, script_value::specs::Lines::refusal_on, value_text::specs::Values::values_on, value_text::specs::Words::word_text, text::specs::Decimals::decimal, text::specs::Decimals::decimal_on))]
 pub(crate) fn put_text(out: &mut TextWriter<'_>, answer: Answer)
     requires { Room out.old 511 }
     ensures { Puts out.old out.new 511 (answer_text answer) }
@@ -35,9 +36,19 @@ pub(crate) fn put_text(out: &mut TextWriter<'_>, answer: Answer)
     match answer {
         Answer::Ticket(seq) => put_ticket(out, seq),
         Answer::Claimed(epoch) => put_claimed(out, epoch),
+        Answer::Done => out.text(b"(done)"),
         Answer::Outcome(outcome) => put_head_outcome(out, outcome),
         Answer::View(view) => put_view(out, view),
-        _ => put_read(out, answer),
+        Answer::Parked => out.text(b"(parked)"),
+        Answer::Completion(end) => put_completion(out, end),
+        Answer::Link(link) => put_link(out, link),
+        Answer::Report(report) => put_report_line(out, report),
+        Answer::Stats(stats) => put_stats_line(out, stats),
+        Answer::Heads(current, installed, previous) => put_heads(out, current, installed, previous),
+        Answer::ListDisagrees => out.text(b"(refused 2)"),
+        Answer::WaiterAbove15 => out.text(b"(refused 3)"),
+        Answer::WaiterNotFree => out.text(b"(refused 15)"),
+        Answer::WaiterFree => out.text(b"(refused 16)"),
     }
 }
 

@@ -1,5 +1,5 @@
 // Tickets, claims and views, each without its line feed.
-#![tactic(auto, using(text_put::proofs::Writers::wrote_both), unfolding(script_value::specs::Lines::answer_text, script_value::specs::Lines::said_text, head_driver::specs::Answers::said, script_value::specs::Lines::refusal_on, value_text::specs::Values::values_on, value_text::specs::Values::value_text, value_text::specs::Words::word_text, script_outcome::specs::Texts::source_text, head_driver::specs::Answers::source_value, script_outcome::specs::Texts::readiness_text))]
+#![tactic(auto, using(text_put::proofs::Writers::wrote_both), unfolding(script_value::specs::Lines::answer_text, script_value::specs::Lines::said_text, head_driver::specs::Answers::said, script_value::specs::Lines::refusal_on, value_text::specs::Values::values_on, value_text::specs::Values::value_text, value_text::specs::Words::word_text, script_outcome::specs::Texts::source_text, head_ready::specs::Said::source_value, script_outcome::specs::Texts::readiness_text))]
 
 ghost use Rattle.head_driver.specs.declared.Answer.{Answer};
 ghost use Rattle.script_value.specs.Lines.{answer_text};

@@ -1,5 +1,5 @@
 // The answers of an apply or a claim: what it settled, or why the state turned it away. A bracket, a word and the value each, as in `script_reads`.
-#![tactic(auto, using(text_put::proofs::Writers::wrote_both), unfolding(script_value::specs::Lines::answer_text, script_value::specs::Lines::said_text, head_driver::specs::Answers::said, script_value::specs::Lines::refusal_on, value_text::specs::Values::values_on, value_text::specs::Values::value_text, value_text::specs::Words::word_text, head_driver::specs::Answers::outcome_said, script_outcome::specs::Texts::outcome_text, value_text::specs::Texts::anchor_text))]
+#![tactic(auto, using(text_put::proofs::Writers::wrote_both), unfolding(script_value::specs::Lines::answer_text, script_value::specs::Lines::said_text, head_driver::specs::Answers::said, script_value::specs::Lines::refusal_on, value_text::specs::Values::values_on, value_text::specs::Values::value_text, value_text::specs::Words::word_text, head_ready::specs::Said::outcome_said, script_outcome::specs::Texts::outcome_text, value_text::specs::Texts::anchor_text))]
 
 ghost use Rattle.std.specs.Prelude.{◌++◌};
 ghost use Rattle.script_value.specs.Lines.{answer_text};

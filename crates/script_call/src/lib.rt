@@ -37,10 +37,10 @@ pub(crate) fn ends(r: &mut LineReader<'_>) -> bool
 
 // The call, where the line ends with it.
 #[tactic(auto, unfolding(crate::specs::Calls::closed))]
-pub(crate) fn closed(r: &mut LineReader<'_>, call: Call) -> Option<LineCall>
-    ensures { result ≡ closed (rest r.old) call }
+pub(crate) fn closed(r: &mut LineReader<'_>, read: Call) -> Option<LineCall>
+    ensures { result ≡ closed (rest r.old) read }
 {
-    ends(r).then_some(LineCall::Make(call))
+    ends(r).then_some(LineCall::Make(read))
 }
 
 // ` A SEQ`: a delivery, as a claim and an apply name it.

@@ -6,7 +6,8 @@ use native.Mathlib.Omega.{arith}
 use mathlib.Core.List.{◌++◌}
 use mathlib.Core.Path.{◌≡◌, refl}
 use lib.ListN.{length, length-append}
-use Rattle.head_driver.specs.Answers.{outcome_said, said}
+use Rattle.head_driver.specs.Answers.{said}
+use Rattle.head_ready.specs.Said.{outcome_said}
 use Rattle.script_answer.specs.Answers.{answer_line}
 use Rattle.script_value.specs.Lines.{answer_text, refusal_on, said_text}
 use Rattle.script_outcome.specs.Texts.{end_text, outcome_text, readiness_text, report_text, source_text}

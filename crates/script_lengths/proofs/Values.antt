@@ -7,7 +7,9 @@ use mathlib.Core.List.{◌++◌}
 use mathlib.Core.Path.{◌≡◌, refl}
 use lib.ListN.{length, length-append}
 use Rattle.head_values.specs.Values.{fault_value, link_value, outcome_value}
-use Rattle.head_driver.specs.Answers.{end_value, readiness_value, report_value, source_value}
+use Rattle.head_attempt.specs.Said.{end_value}
+use Rattle.head_ready.specs.Said.{readiness_value, source_value}
+use Rattle.head_current.specs.Said.{report_value}
 use Rattle.value_text.proofs.Lengths.{skip_most}
 use Rattle.script_outcome.specs.Texts.{cold_text, end_text, outcome_text, readiness_text, report_text, source_text}
 use Rattle.value_text.specs.Texts.{skip_text, link_text, fault_text}

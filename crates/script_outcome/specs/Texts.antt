@@ -3,7 +3,9 @@ use Rattle.head_current.specs.declared.DeltaReport.{DeltaReport}
 use Rattle.std.specs.Prelude.{ℕ, List, Option}
 use Rattle.head_values.specs.Values.{Value, fault_value, outcome_value, skip_value}
 use Rattle.head_values.specs.Words.{Word}
-use Rattle.head_driver.specs.Answers.{end_value, readiness_value, report_value, source_value}
+use Rattle.head_attempt.specs.Said.{end_value}
+use Rattle.head_ready.specs.Said.{readiness_value, source_value}
+use Rattle.head_current.specs.Said.{report_value}
 use Rattle.value_text.specs.Values.{value_text}
 use Rattle.head_values.specs.declared.BalSkip.{BalSkip}
 use Rattle.head_values.specs.declared.CarryOutcome.{CarryOutcome}

@@ -1,6 +1,6 @@
 // The lines of the answers of calls that only read, each without its line feed.
 // A bracket, a word and the value, in three lines each: one function over a writer handed in would need that writer's contract written out.
-#![tactic(auto, using(text_put::proofs::Writers::wrote_both), unfolding(script_outcome::specs::Texts::end_text, head_driver::specs::Answers::end_value, value_text::specs::Values::value_text, value_text::specs::Words::word_text, value_text::specs::Texts::fault_text, value_text::specs::Texts::link_text, head_values::specs::Values::fault_value, head_values::specs::Values::link_value, script_value::specs::Lines::answer_text, script_value::specs::Lines::said_text, head_driver::specs::Answers::said, script_value::specs::Lines::refusal_on, value_text::specs::Values::values_on, script_outcome::specs::Texts::report_text, value_text::specs::Texts::slot_text))]
+#![tactic(auto, using(text_put::proofs::Writers::wrote_both), unfolding(script_outcome::specs::Texts::end_text, head_attempt::specs::Said::end_value, value_text::specs::Values::value_text, value_text::specs::Words::word_text, value_text::specs::Texts::fault_text, value_text::specs::Texts::link_text, head_values::specs::Values::fault_value, head_values::specs::Values::link_value, script_value::specs::Lines::answer_text, script_value::specs::Lines::said_text, head_driver::specs::Answers::said, script_value::specs::Lines::refusal_on, value_text::specs::Values::values_on, script_outcome::specs::Texts::report_text, value_text::specs::Texts::slot_text))]
 
 ghost use Rattle.head_driver.specs.declared.Answer.{Answer};
 ghost use Rattle.script_outcome.specs.Texts.{end_text};
@@ -33,8 +33,8 @@ pub(crate) fn put_end(out: &mut TextWriter<'_>, end: HeadCompletion)
 }
 
 // Its word is longer than the checker's `grind` reads, so it has a list of its own, with the writer opened.
-#[tactic(auto, using(text_put::proofs::Writers::wrote_both), unfolding(script_value::specs::Lines::answer_text, script_value::specs::Lines::said_text, head_driver::specs::Answers::said, script_value::specs::Lines::refusal_on, value_text::specs::Values::values_on, value_text::specs::Words::word_text, script_outcome::specs::Texts::end_text, value_text::specs::Values::value_text, head_driver::specs::Answers::end_value, text_put::specs::Writers::wrote))]
-pub(crate) fn put_completion(out: &mut TextWriter<'_>, end: HeadCompletion)
+#[tactic(auto, using(text_put::proofs::Writers::wrote_both), unfolding(script_value::specs::Lines::answer_text, script_value::specs::Lines::said_text, head_driver::specs::Answers::said, script_value::specs::Lines::refusal_on, value_text::specs::Values::values_on, value_text::specs::Words::word_text, script_outcome::specs::Texts::end_text, value_text::specs::Values::value_text, head_attempt::specs::Said::end_value, text_put::specs::Writers::wrote))]
+pub fn put_completion(out: &mut TextWriter<'_>, end: HeadCompletion)
     requires { Room out.old 23 }
     ensures { Puts out.old out.new 23 (answer_text (Answer.Completion end)) }
 {
@@ -54,7 +54,7 @@ pub(crate) fn put_link_word(out: &mut TextWriter<'_>, link: Link)
     }
 }
 
-pub(crate) fn put_link(out: &mut TextWriter<'_>, link: Link)
+pub fn put_link(out: &mut TextWriter<'_>, link: Link)
     requires { Room out.old 22 }
     ensures { Puts out.old out.new 22 (answer_text (Answer.Link link)) }
 {
@@ -63,7 +63,7 @@ pub(crate) fn put_link(out: &mut TextWriter<'_>, link: Link)
     out.byte(b')');
 }
 
-pub(crate) fn put_report_line(out: &mut TextWriter<'_>, report: Option<DeltaReport>)
+pub fn put_report_line(out: &mut TextWriter<'_>, report: Option<DeltaReport>)
     requires { Room out.old 84 }
     ensures { Puts out.old out.new 84 (answer_text (Answer.Report report)) }
 {
@@ -73,7 +73,7 @@ pub(crate) fn put_report_line(out: &mut TextWriter<'_>, report: Option<DeltaRepo
 }
 
 #[tactic(auto, using(text_put::proofs::Writers::wrote_both, crate::proofs::Statistics::stats_line))]
-pub(crate) fn put_stats_line(out: &mut TextWriter<'_>, stats: HeadStats)
+pub fn put_stats_line(out: &mut TextWriter<'_>, stats: HeadStats)
     requires { Room out.old 175 }
     ensures { Puts out.old out.new 175 (answer_text (Answer.Stats stats)) }
 {
@@ -82,7 +82,7 @@ pub(crate) fn put_stats_line(out: &mut TextWriter<'_>, stats: HeadStats)
     out.byte(b')');
 }
 
-pub(crate) fn put_heads(
+pub fn put_heads(
     out: &mut TextWriter<'_>,
     current: Option<ReadAnchor>,
     installed: Option<ReadAnchor>,

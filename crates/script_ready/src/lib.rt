@@ -1,6 +1,6 @@
 // Readiness as text into a lent buffer, for lines and sheets alike: a settled head that is cold tells of its outcome.
 // Knows nothing of an answer's line, nor of a sheet's.
-#![tactic(auto, unfolding(script_outcome::specs::Texts::reason_text, head_driver::specs::Answers::readiness_value, value_text::specs::Values::value_text, value_text::specs::Words::word_text, script_outcome::specs::Texts::outcome_text, head_values::specs::Values::outcome_value, script_outcome::specs::Texts::readiness_text))]
+#![tactic(auto, unfolding(script_outcome::specs::Texts::reason_text, head_ready::specs::Said::readiness_value, value_text::specs::Values::value_text, value_text::specs::Words::word_text, script_outcome::specs::Texts::outcome_text, head_values::specs::Values::outcome_value, script_outcome::specs::Texts::readiness_text))]
 
 ghost use Rattle.script_outcome.specs.Texts.{reason_text, readiness_text};
 ghost use Rattle.text_put.specs.Writers.{Puts, Room};

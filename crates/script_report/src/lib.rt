@@ -11,7 +11,7 @@ use script_outcome::put_outcome;
 use text_put::TextWriter;
 
 // Puts `(OUTCOME REPORT)`, or `none`.
-#[tactic(auto, using(text_put::proofs::Writers::wrote_both), unfolding(script_outcome::specs::Texts::report_text, head_driver::specs::Answers::report_value, script_outcome::specs::Texts::outcome_text, value_text::specs::Values::value_text, value_text::specs::Words::word_text))]
+#[tactic(auto, using(text_put::proofs::Writers::wrote_both), unfolding(script_outcome::specs::Texts::report_text, head_current::specs::Said::report_value, script_outcome::specs::Texts::outcome_text, value_text::specs::Values::value_text, value_text::specs::Words::word_text))]
 pub fn put_report(out: &mut TextWriter<'_>, report: Option<DeltaReport>)
     requires { Room out.old 75 }
     ensures { Puts out.old out.new 75 (report_text report) }

@@ -1,2 +1,0 @@
--- What the code goes through.
-pub mod Parts
