@@ -27,7 +27,7 @@ use Rattle.head_calls.specs.Release.{release}
 use Rattle.head_waits.specs.Snapshot.{snapshot, viewed}
 use Rattle.head_ready.specs.Generations.{slot_anchor}
 use Rattle.head_life.specs.State.{counted, view_counted}
-use Rattle.head_asks.specs.Asks.{completion, report, stats, heads, link}
+use Rattle.head_asks.specs.Asks.{completion, last_report, stats, heads, link}
 use Rattle.head_step.specs.Steps.{step}
 use Rattle.head_life.specs.Views.{current_view, generation_view, provisional_view, spare_view, view}
 use Rattle.head_waits.specs.Waits.{resume, resume_as, view_frees, wait, wait_as, waits_anew}
@@ -321,7 +321,7 @@ module _ (i p : Option Generation) (n : Seq) (e : Epoch) (t : HeadStats) (ws : L
     both_resume (Waiter.Ended a) k spare = both_anew k a spare
 
     both_call : (x : Call) → Both (step d₁ x) (step d₂ x)
-    unfolding step claim claim_life with_life snapshot wait resume completion completion_at link report stats heads
+    unfolding step claim claim_life with_life snapshot wait resume completion completion_at link last_report stats heads
     both_call (Call.Deliver a q cold) = both_deliver a q cold
     both_call (Call.Claim ticket) = rw (← same_delivery w) (both_claim (delivery c₁) refl ticket)
     both_call (Call.Release owner) = both_release owner

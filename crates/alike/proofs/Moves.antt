@@ -45,7 +45,7 @@ use Rattle.head_calls.specs.Release.{release}
 use Rattle.head_waits.specs.Parts.{put}
 use Rattle.head_waits.specs.Snapshot.{snapshot, viewed}
 use Rattle.head_waits.specs.Waits.{resume, resume_as, view_frees, wait, wait_as, waits_anew}
-use Rattle.head_asks.specs.Asks.{completion, heads, link, report, stats}
+use Rattle.head_asks.specs.Asks.{completion, heads, link, last_report, stats}
 use Rattle.head_step.specs.Steps.{step}
 use Rattle.alike.proofs.Nexts.{Released, claim_reply, claimed_at, deliver_reply, delivered_at, released_at, released_either}
 use Rattle.alike.proofs.Tests.{true_false}
@@ -162,7 +162,7 @@ module _ (d : Driver) (ticket : HeadTicket) (list : PreparedBal) (handle carried
   apply_move = cond_both (not (as_prepared list)) _ _ (Leaves d (Call.Apply ticket list handle carried report)) (λ e. none) (λ e. plan_move (delivery d.life.current) refl)
 
 pub step_move : (d : Driver) (c : Call) → Move d c (step d c).driver
-unfolding step deliver claim claim_life with_life release snapshot wait resume completion link report stats heads
+unfolding step deliver claim claim_life with_life release snapshot wait resume completion link last_report stats heads
 step_move d (Call.Deliver a p cold) = deliver_move d a p cold
 step_move d (Call.Claim ticket) = claim_move d _ (delivery d.life.current) ticket refl
 step_move d (Call.Release owner) = release_move d _ owner (released_either d.life.current owner)

@@ -9,7 +9,7 @@ use Rattle.head_attempt.specs.Attempts.{minted}
 use Rattle.head_count.specs.Counters.{next_seq, seq_of, up}
 use Rattle.head_current.specs.Heads.{delivery, current_report, published}
 use Rattle.head_ready.specs.Generations.{slot_anchor}
-use Rattle.head_asks.specs.Asks.{report, stats, heads}
+use Rattle.head_asks.specs.Asks.{last_report, stats, heads}
 use Rattle.head_step.specs.Steps.{step}
 use Rattle.head_life.specs.Views.{view_of}
 use Rattle.hash.specs.declared.Hash.{Hash}
@@ -106,7 +106,7 @@ module _ {d₁ d₂ : Driver} (w : Twin d₁ d₂) where
       (cc, cc, cc)
 
   pub probe_report : current_report c₁ ≡ current_report c₂
-  unfolding step report
+  unfolding step last_report
   probe_report = let e : Answer.Report (current_report c₁) ≡ Answer.Report (current_report c₂) = twin_answer w Call.Report tt in cc
 
   pub probe_installed : d₁.life.installed ≡ d₂.life.installed

@@ -1,4 +1,5 @@
--- A turn that equals the definition's keeps the whole promise, and one that keeps it equals the definition's.
+-- What is said of a line's answer is said of it alone, and is what its line says. A turn that equals the definition's keeps the whole promise, and one that
+-- keeps it equals the definition's.
 use Prim.Native.Nat.{ℕ}
 use mathlib.Core.List.{List}
 use mathlib.Core.Path.{◌≡◌, refl, ap, ap₂, sym, ◌∙◌}
@@ -28,6 +29,9 @@ said_back LineAnswer.NoCall = refl
 said_back LineAnswer.SheetTooShort = refl
 said_back (LineAnswer.Sheet n) = refl
 
+pub line_exact : {a b : LineAnswer} → line_said a ≡ line_said b → a ≡ b
+line_exact e = sym (said_back _) ∙ ap case_of e ∙ said_back _
+
 -- and its line says so
 pub line_says : LineSays
 unfolding line_text line_said said_line answer_line answer_text said_text word_text refusal_on values_on decimal decimal_on
@@ -41,4 +45,4 @@ module _ {d : Driver} {line old new : List ℕ} {r : Turn} where
   takes e s = record { driver = ap (λ (t : Turn). t.driver) e; answer = ap (λ (t : Turn). line_said t.answer) e; sheet = s }
 
   pub turned : Takes d line old new r → r ≡ turn_of d (call line) old
-  turned t = ap₂ (λ (e : Driver) (a : LineAnswer). record { driver = e; answer = a }) t.driver (sym (said_back _) ∙ ap case_of t.answer ∙ said_back _)
+  turned t = ap₂ (λ (e : Driver) (a : LineAnswer). record { driver = e; answer = a }) t.driver (line_exact t.answer)

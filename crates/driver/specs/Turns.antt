@@ -39,7 +39,7 @@ sheet_after d None buf = buf
 sheet_after d (Some LineCall.Sheet) buf = buffer_after 4096 buf (sheet_text d)
 sheet_after d (Some (LineCall.Make c)) buf = buf
 
--- what is said of a line's answer: an answer line, or the sheet, so many bytes of it, which has none
+-- what is said of a line's answer: an answer line; or a sheet, which has no answer line, and how many bytes it has
 pub data LineSaid : Type 0 where
   answer : Said LineAnswer → LineSaid
   sheet : ℕ → LineSaid

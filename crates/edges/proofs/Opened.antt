@@ -84,7 +84,7 @@ unfoldable calls : Unit {0}
 unfolding ReadySaid.readiness_value ReadySaid.source_value EndSaid.end_value ReportSaid.report_value ReadySaid.outcome_said Said.stats_values Said.said Moved.woken_waiters Moved.moved New.new
     DriverParts.with_life Deliver.deliver Claim.claim_answer Claim.claim Release.release Apply.apply_settled Apply.apply_planned Apply.apply Snapshot.viewed
     Snapshot.snapshot WaiterParts.waiter_at WaiterParts.put Waits.readiness_by_wait Waits.shown_by_wait Waits.view_frees Waits.waits_anew Waits.abandoned_view
-    Waits.wait_as Waits.wait Waits.resume_as Waits.resume Asks.completion Asks.link Asks.report Asks.stats Asks.heads Steps.step
+    Waits.wait_as Waits.wait Waits.resume_as Waits.resume Asks.completion Asks.link Asks.last_report Asks.stats Asks.heads Steps.step
 calls = tt
 
 -- words, decimals and hashes

@@ -2,7 +2,7 @@
 // Knows nothing of where the word stands, nor of how a hash is written.
 #![tactic(auto)]
 
-ghost use Rattle.std.specs.Prelude.{◌<◌, ◌^◌, max, ◌≡◌, map, length};
+ghost use Rattle.std.specs.Prelude.{◌<◌, ◌^◌, ◌≡◌, map, length};
 ghost use Rattle.hash_text.specs.Hex.{digit_value};
 ghost use Rattle.hash_text.specs.LineHashes.{line_hash};
 ghost use Rattle.hash_read.specs.Values.{value_of, largest, number_on};

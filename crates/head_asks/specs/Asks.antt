@@ -21,8 +21,8 @@ unfoldable pub link : Driver → Option ReadAnchor → ReadAnchor → Hash → R
 link d parent child parent_hash = reply_of d (Answer.Link (classify_link parent child parent_hash))
 
 -- "`(report)` `(report R)`, R being `(OUTCOME REPORT)` as the current head's own apply gave it, else `none`"
-unfoldable pub report : Driver → Reply
-report d = reply_of d (Answer.Report (current_report d.life.current))
+unfoldable pub last_report : Driver → Reply
+last_report d = reply_of d (Answer.Report (current_report d.life.current))
 
 -- "`(stats)` `(stats` and eight counters`)`"
 unfoldable pub stats : Driver → Reply

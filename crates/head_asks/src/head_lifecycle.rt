@@ -1,6 +1,6 @@
 // From head_lifecycle.rs: `BalHeadDriver::completion`, `last_report`, `stats`, `delivered`, `installed` and `previous`; and `classify_link`, of
 // read_hub.rs, as a call.
-ghost use Rattle.head_asks.specs.Asks.{completion, heads, link, report, stats};
+ghost use Rattle.head_asks.specs.Asks.{completion, heads, last_report, link, stats};
 ghost use Rattle.head_driver.specs.Answers.{Replies};
 
 use hash::Hash;
@@ -24,9 +24,9 @@ pub fn link(d: Driver, parent: Option<ReadAnchor>, child: ReadAnchor, parent_has
     answered(d, Answer::Link(classify_link(parent, child, parent_hash)))
 }
 
-#[tactic(auto, using(head_driver::proofs::Replied::replied, head_current::proofs::Said::report_exact), unfolding(crate::specs::Asks::report))]
-pub fn report(d: Driver) -> Reply
-    ensures { Replies result (report d) }
+#[tactic(auto, using(head_driver::proofs::Replied::replied, head_current::proofs::Said::report_exact), unfolding(crate::specs::Asks::last_report))]
+pub fn last_report(d: Driver) -> Reply
+    ensures { Replies result (last_report d) }
 {
     answered(d, Answer::Report(d.life.current.report()))
 }

@@ -1,5 +1,5 @@
 // Which calls their input alone turns away. In the Rust most calls are methods, and such input cannot be made there.
-ghost use Rattle.std.specs.Prelude.{◌≡◌, None, Some};
+ghost use Rattle.std.specs.Prelude.{◌≡◌};
 ghost use Rattle.std.specs.Option.{option_map};
 ghost use Rattle.head_call.specs.Inputs.{input_number, input_refusal, list_refusal, refusal_said, waiter_refusal};
 

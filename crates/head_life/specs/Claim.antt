@@ -22,7 +22,7 @@ claim_held (Some held) l ticket =
     -- or ticket's anchor or seq is not the current head's (names the current anchor)
     cond (not (has_ticket held ticket)) (l, Err (refused_11 held.anchor))
     -- 13 already settled: the head is installed; and, as the Rust asks too, where it is settled
-    -- (`SettledInstalled`, of `rules`: then it is installed in every driver that lines bring)
+    -- (`ClaimsInstalled`, of `rules`: in every driver that lines bring the two are one)
     (cond (holds (slot_anchor l.installed) held.anchor || is_settled l.current) (l, Err refused_13)
     -- 14 in flight: preparing
     (cond (is_preparing l.current) (l, Err refused_14)

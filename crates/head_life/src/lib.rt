@@ -1,5 +1,5 @@
 // The head lifecycle: the current head, what is installed, what was installed before it, and the counters; and what a call makes of them.
-// Knows nothing of waiters, of answers or of lines.
+// Knows nothing of waiters, of which call answers what, or of lines.
 #![tactic(auto)]
 
 use head_count::{Epoch, HeadStats, Seq};

@@ -11,11 +11,12 @@ use Rattle.head_count.specs.declared.Epoch.{Epoch}
 use Rattle.head_attempt.specs.declared.Waiter.{Waiter}
 use Rattle.head_ready.specs.declared.HeadOutcome.{HeadOutcome}
 use Rattle.head_current.specs.Heads.{preparing_at}
-use Rattle.head_call.specs.Inputs.{input_refusal, list_refusal, waiter_refusal}
+use Rattle.head_call.specs.Inputs.{input_number, input_refusal, list_refusal, refusal_said, waiter_refusal}
 use Rattle.head_call.specs.declared.Call.{Call}
 use Rattle.head_call.specs.declared.InputRefusal.{InputRefusal}
 use Rattle.head_life.specs.declared.ApplyPlan.{ApplyPlan}
 use Rattle.head_life.specs.declared.HeadLifecycle.{HeadLifecycle}
+use Rattle.head_driver.specs.Answers.{said}
 use Rattle.head_driver.specs.declared.Answer.{Answer}
 use Rattle.head_driver.specs.declared.Driver.{Driver}
 use Rattle.head_driver.specs.declared.Reply.{Reply}
@@ -25,8 +26,8 @@ use Rattle.head_calls.specs.Deliver.{deliver}
 use Rattle.head_calls.specs.Release.{release}
 use Rattle.head_waits.specs.Snapshot.{snapshot, viewed}
 use Rattle.head_waits.specs.Waits.{resume, resume_as, view_frees, wait, wait_as, waits_anew}
-use Rattle.head_asks.specs.Asks.{completion, heads, link, report, stats}
-use Rattle.head_step.specs.Statements.{AnswersInput, KeepsTurnedAway, input_said}
+use Rattle.head_asks.specs.Asks.{completion, heads, link, last_report, stats}
+use Rattle.head_step.specs.Statements.{AnswersInput, KeepsTurnedAway, SaysInput, input_said}
 use Rattle.head_step.specs.Steps.{step}
 
 claim_said : (r : Result Epoch HeadOutcome) → input_said (claim_answer r) ≡ None
@@ -63,8 +64,26 @@ tested : (t : Bool) (d : Driver) (refused : Answer) (r : InputRefusal) (past : R
 tested true d refused r past p q = p
 tested false d refused r past p q = q
 
+pub says_input : SaysInput
+unfolding input_said input_number refusal_said said
+says_input (Answer.Ticket n) = inl refl
+says_input (Answer.Claimed e) = inl refl
+says_input Answer.Done = inl refl
+says_input (Answer.Outcome o) = inl refl
+says_input (Answer.View v) = inl refl
+says_input Answer.Parked = inl refl
+says_input (Answer.Completion end) = inl refl
+says_input (Answer.Link l) = inl refl
+says_input (Answer.Report r) = inl refl
+says_input (Answer.Stats s) = inl refl
+says_input (Answer.Heads current installed previous) = inl refl
+says_input Answer.ListDisagrees = inr refl
+says_input Answer.WaiterAbove15 = inr refl
+says_input Answer.WaiterNotFree = inl refl
+says_input Answer.WaiterFree = inl refl
+
 pub answers_input : AnswersInput
-unfolding step input_said input_refusal list_refusal waiter_refusal apply claim deliver release snapshot viewed wait resume completion link report stats heads
+unfolding step input_said input_refusal list_refusal waiter_refusal apply claim deliver release snapshot viewed wait resume completion link last_report stats heads
 answers_input d (Call.Deliver a p cold) = refl
 answers_input d (Call.Claim ticket) = claim_said _
 answers_input d (Call.Release owner) = refl

@@ -1,8 +1,9 @@
 -- What is proved of a call's input: that it can be asked before the call is made.
 use Rattle.std.specs.Prelude.{◌≡◌, ◌⊎◌, Option, None, Some}
-use Rattle.head_call.specs.Inputs.{input_refusal}
+use Rattle.head_call.specs.Inputs.{input_number, input_refusal}
 use Rattle.head_call.specs.declared.Call.{Call}
 use Rattle.head_call.specs.declared.InputRefusal.{InputRefusal}
+use Rattle.head_driver.specs.Answers.{said}
 use Rattle.head_driver.specs.declared.Answer.{Answer}
 use Rattle.head_driver.specs.declared.Driver.{Driver}
 use Rattle.head_step.specs.Steps.{step}
@@ -24,6 +25,10 @@ input_said Answer.ListDisagrees = Some InputRefusal.ListDisagrees
 input_said Answer.WaiterAbove15 = Some InputRefusal.WaiterAbove15
 input_said Answer.WaiterNotFree = None
 input_said Answer.WaiterFree = None
+
+-- an answer that is the input's refusal says its number
+abbrev pub SaysInput : Type 0
+SaysInput = (a : Answer) → (input_said a ≡ None) ⊎ ((said a).number ≡ input_number (input_said a))
 
 -- What the call's input alone says is what `step` answers: 2 or 3 exactly where it says so,
 abbrev pub AnswersInput : Type 0

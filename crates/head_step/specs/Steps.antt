@@ -8,7 +8,7 @@ use Rattle.head_calls.specs.Deliver.{deliver}
 use Rattle.head_calls.specs.Release.{release}
 use Rattle.head_waits.specs.Snapshot.{snapshot}
 use Rattle.head_waits.specs.Waits.{resume, wait}
-use Rattle.head_asks.specs.Asks.{completion, heads, link, report, stats}
+use Rattle.head_asks.specs.Asks.{completion, heads, link, last_report, stats}
 
 -- each call by its definition; most are methods of `BalHeadDriver`
 unfoldable pub step : Driver → Call → Reply
@@ -21,6 +21,6 @@ step d (Call.Wait n a spare) = wait d n a spare
 step d (Call.Resume n spare) = resume d n spare
 step d (Call.Completion a) = completion d a
 step d (Call.Link parent child parent_hash) = link d parent child parent_hash
-step d Call.Report = report d
+step d Call.Report = last_report d
 step d Call.Stats = stats d
 step d Call.Heads = heads d

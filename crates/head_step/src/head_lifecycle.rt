@@ -2,7 +2,7 @@
 ghost use Rattle.head_driver.specs.Answers.{Replies};
 ghost use Rattle.head_step.specs.Steps.{step};
 
-use head_asks::head_lifecycle::{completion, heads, link, report, stats};
+use head_asks::head_lifecycle::{completion, heads, last_report, link, stats};
 use head_call::Call;
 use head_calls::head_lifecycle::{apply, claim, deliver, release};
 use head_driver::{Driver, Reply};
@@ -25,7 +25,7 @@ pub fn step(d: Driver, call: Call) -> Reply
         Call::Resume(n, spare) => resume(d, n, spare),
         Call::Completion(anchor) => completion(d, anchor),
         Call::Link(parent, child, parent_hash) => link(d, parent, child, parent_hash),
-        Call::Report => report(d),
+        Call::Report => last_report(d),
         Call::Stats => stats(d),
         Call::Heads => heads(d),
     }

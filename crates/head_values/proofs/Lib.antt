@@ -1,2 +1,2 @@
--- The law that belongs to no one function.
+-- The laws that belong to no one function.
 pub mod Said

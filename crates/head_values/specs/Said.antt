@@ -1,6 +1,8 @@
 -- Document 01, "Calls and answers": what an answer says, `(WORD VALUES..)`, or `(refused N VALUES..)`. "If an answer is an enum, the promises
 -- use a definition that states this paper's number and values for each of its cases": a promise equates what is said of two answers, so it
--- holds the case itself too. The answers of the link test and of an apply stand here, those of every call in `head_driver/specs/Answers`.
+-- holds the case itself too. What is said of the link test and of an apply's outcome stands here; of an end, a report, a view and a refusal in
+-- the `Said` of `head_attempt`, `head_current`, `head_ready` and `head_life`, and of a call's input in `head_call/specs/Inputs`, where these are made;
+-- of every call's answer in `head_driver/specs/Answers`.
 use Rattle.std.specs.Prelude.{ℕ, List, [], ◌∷◌}
 use Rattle.head_values.specs.Values.{Value, link_value, outcome_value}
 use Rattle.head_values.specs.Words.{Word}

@@ -7,11 +7,16 @@ use mathlib.Core.Path.{◌≡◌, refl, ap, sym, ◌∙◌}
 use Rattle.std.proofs.lemmas.Bool.{false_from_ne_true}
 use Rattle.std.specs.Prelude.{Option, Some}
 use Rattle.head_values.specs.Anchors.{holds, same_anchor}
+use Rattle.head_values.specs.declared.CarryOutcome.{CarryOutcome}
+use Rattle.head_values.specs.declared.PreparedBal.{PreparedBal}
 use Rattle.head_values.specs.declared.ReadAnchor.{ReadAnchor}
 use Rattle.head_attempt.specs.declared.Waiter.{Waiter}
 use Rattle.head_ready.specs.Generations.{slot_anchor}
 use Rattle.head_ready.specs.declared.Generation.{Generation}
 use Rattle.head_ready.specs.declared.HeadCold.{HeadCold}
+use Rattle.head_ready.specs.declared.HeadOutcome.{HeadOutcome}
+use Rattle.head_current.specs.declared.HeadTicket.{HeadTicket}
+use Rattle.head_life.specs.Apply.{settled_readiness}
 use Rattle.head_ready.specs.declared.HeadReadiness.{HeadReadiness}
 use Rattle.head_ready.specs.declared.HeadView.{HeadView}
 use Rattle.head_current.specs.Heads.{preparing_at}
@@ -34,8 +39,9 @@ use Rattle.driver.specs.Turns.{made, turn_of}
 use Rattle.rules.proofs.Lines.{lines_keep}
 use Rattle.rules.specs.Runs.{Entry, after, turn_at}
 use Rattle.redelivered.proofs.Redelivered.{installed_read}
+use Rattle.redelivered.proofs.Applied.{apply_installs}
 use Rattle.redelivered.proofs.Settles.{delivery_keeps, lines_keep_installed}
-use Rattle.redelivered.specs.Statements.{AsksFor, ShownAfterLines, as_settled, by_snapshot, by_wait, driver_after}
+use Rattle.redelivered.specs.Statements.{AsksFor, ShownAfterLines, ShownUntilNextSettle, as_settled, by_snapshot, by_wait, driver_after}
 
 -- an installed readiness is never `unprepared`
 settled_shown : (r : HeadReadiness) → FromApply r → readiness_by_wait r ≡ r
@@ -80,11 +86,39 @@ module _ (d : Driver) (v : Invariant d) (g : Generation) (e : d.life.installed �
   asked_shows asked (by_snapshot spare q) = rw q (ap (λ (x : Answer). LineAnswer.Said x) (snapshot_shows spare))
   asked_shows asked (by_wait n spare h w q) = rw q (ap (λ (x : Answer). LineAnswer.Said x) (wait_shows n spare h w))
 
+-- what a call's answer as a line's is
+said_or : Answer → LineAnswer → Answer
+said_or x (LineAnswer.Said a) = a
+said_or x LineAnswer.NoCall = x
+said_or x LineAnswer.SheetTooShort = x
+said_or x (LineAnswer.Sheet n) = x
+
+said_of : {a b : Answer} → LineAnswer.Said a ≡ LineAnswer.Said b → a ≡ b
+unfolding said_or
+said_of {a} e = ap (said_or a) e
+
 -- the line that delivers again
 again_keeps : (d : Driver) (again : Entry) (a : ReadAnchor) (c : Call) → call again.line ≡ Some (LineCall.Make c)
     → (step d c).driver.life.installed ≡ d.life.installed → (turn_at d again).driver.life.installed ≡ d.life.installed
 unfolding turn_of made
 again_keeps d again a c q k = rw q k
+
+-- the line that settles
+settling_installs : (d : Driver) (settling : Entry) (ticket : HeadTicket) (list : PreparedBal) (handle carried report : ℕ) (o : CarryOutcome)
+    → call settling.line ≡ Some (LineCall.Make (Call.Apply ticket list handle carried report))
+    → (turn_at d settling).answer ≡ LineAnswer.Said (Answer.Outcome (HeadOutcome.Settled o))
+    → (turn_at d settling).driver.life.installed ≡ Some (record { anchor = ticket.anchor; handle = handle; readiness = settled_readiness o })
+unfolding turn_of made
+settling_installs d settling ticket list handle carried report o q told =
+    rw q (apply_installs d ticket handle o list carried report (said_of (rw q at told)))
+
+pub shown_until_next_settle : ShownUntilNextSettle
+unfolding after
+shown_until_next_settle first more settling asked ticket list handle carried report o q told n asks =
+    let d = after new first in
+    let v = lines_keep d (settling ∷ more) (lines_keep new first holds_of_new) in
+    let k = lines_keep_installed (turn_at d settling).driver more n ∙ settling_installs d settling ticket list handle carried report o q told in
+    asked_shows (driver_after first settling more) v (record { anchor = ticket.anchor; handle = handle; readiness = settled_readiness o }) k asked asks
 
 pub shown_after_lines : ShownAfterLines
 unfolding step after

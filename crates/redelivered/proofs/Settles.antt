@@ -35,7 +35,7 @@ use Rattle.head_calls.specs.Release.{release}
 use Rattle.head_waits.specs.Parts.{put, waiter_at}
 use Rattle.head_waits.specs.Snapshot.{snapshot, viewed}
 use Rattle.head_waits.specs.Waits.{resume, resume_as, view_frees, wait, wait_as, waits_anew}
-use Rattle.head_asks.specs.Asks.{completion, heads, link, report, stats}
+use Rattle.head_asks.specs.Asks.{completion, heads, link, last_report, stats}
 use Rattle.head_call.specs.declared.Call.{Call}
 use Rattle.head_step.specs.Steps.{step}
 use Rattle.script_answer.specs.declared.LineAnswer.{LineAnswer}
@@ -99,7 +99,7 @@ module _ (d : Driver) where
 
   -- every call
   call_keeps : (c : Call) → Keeps (step d c)
-  unfolding step claim claim_life release release_life moved apply plan_apply snapshot viewed with_life view_counted wait resume completion link report stats heads
+  unfolding step claim claim_life release release_life moved apply plan_apply snapshot viewed with_life view_counted wait resume completion link last_report stats heads
   call_keeps (Call.Deliver a p cold) = λ s. delivery_keeps d a p cold
   call_keeps (Call.Claim ticket) = λ s. claim_keeps (delivery d.life.current) ticket
   call_keeps (Call.Release owner) = λ s. refl

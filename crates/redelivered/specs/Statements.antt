@@ -1,14 +1,17 @@
--- Document 01, "Lifecycle": if the anchor is installed, installed readiness is kept.
+-- Document 01, "Lifecycle": "If the anchor is installed, .. installed readiness kept"; "Traps": "a redelivered cold head shown ready".
 use Rattle.std.specs.Prelude.{ℕ, ◌≤◌, List, [], ◌∷◌, ◌≡◌, Some}
 use Rattle.hash.specs.declared.Hash.{Hash}
 use Rattle.head_values.specs.declared.CarryOutcome.{CarryOutcome}
+use Rattle.head_values.specs.declared.PreparedBal.{PreparedBal}
 use Rattle.head_values.specs.declared.ReadAnchor.{ReadAnchor}
 use Rattle.head_attempt.specs.declared.Waiter.{Waiter}
 use Rattle.head_ready.specs.declared.Generation.{Generation}
 use Rattle.head_ready.specs.declared.HeadOutcome.{HeadOutcome}
 use Rattle.head_ready.specs.declared.HeadView.{HeadView}
 use Rattle.head_ready.specs.declared.Source.{Source}
+use Rattle.head_current.specs.declared.HeadTicket.{HeadTicket}
 use Rattle.head_call.specs.declared.Call.{Call}
+use Rattle.head_life.specs.Apply.{settled_readiness}
 use Rattle.head_life.specs.Views.{view_of}
 use Rattle.head_driver.specs.New.{new}
 use Rattle.head_driver.specs.declared.Answer.{Answer}
@@ -48,7 +51,17 @@ pub data AsksFor (d : Driver) (a : ReadAnchor) (line : List ℕ) : Type 0 where
 
 -- the driver that a list of lines brings from a new one, then a line, then more lines
 abbrev pub driver_after : List Entry → Entry → List Entry → Driver
-driver_after first again more = after (turn_at (after new first) again).driver more
+driver_after first next more = after (turn_at (after new first) next).driver more
+
+-- In every driver that lines bring from a new one, what an apply settled is shown with that apply's handle and the readiness of its outcome, after any
+-- further lines among which no apply settles, deliveries of the same block among them: by a snapshot, and by a wait on a free waiter.
+abbrev pub ShownUntilNextSettle : Type 0
+ShownUntilNextSettle = (first more : List Entry) (settling asked : Entry) (ticket : HeadTicket) (list : PreparedBal) (handle carried report : ℕ) (o : CarryOutcome)
+    → call settling.line ≡ Some (LineCall.Make (Call.Apply ticket list handle carried report))
+    → (turn_at (after new first) settling).answer ≡ LineAnswer.Said (Answer.Outcome (HeadOutcome.Settled o))
+    → NoneSettles (turn_at (after new first) settling).driver more
+    → AsksFor (driver_after first settling more) ticket.anchor asked.line
+    → (turn_at (driver_after first settling more) asked).answer ≡ LineAnswer.Said (Answer.View (view_of Source.Installed handle (settled_readiness o)))
 
 -- In every driver that lines bring from a new one, a block that is installed and is delivered again is shown as it settled, directly after that
 -- delivery and after any further lines among which no apply settles: by a snapshot, and by a wait on a free waiter.

@@ -1,3 +1,3 @@
 // The theorem behind the customer's story: a block that settled cold and is delivered again is not shown as ready.
-// Theorems only, of a call after it and over lines.
+// Theorems only, over calls and over lines.
 #![tactic(auto)]

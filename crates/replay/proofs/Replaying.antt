@@ -139,9 +139,9 @@ module _ (d : Driver) (s : Standing) (line want out : List ℕ) (kind : ℕ) (e 
   }
 
   pub taken_run : kind ≡ 35 → (n : ℕ) → n ≡ number_of line s.held → (r : Replay) → r ≡ run_begun s n → TakesRecord d s line want want out r
-  taken_run is n number r told = record {
+  taken_run is n is_n r told = record {
     call = λ k. no (omega arith);
-    run = λ k. told ∙ ap (run_begun s) number;
+    run = λ k. told ∙ ap (run_begun s) is_n;
     other = λ p q. absurd (q (omega arith));
     answer = λ k. no (omega arith);
   }

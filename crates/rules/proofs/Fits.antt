@@ -23,7 +23,7 @@ use Rattle.head_calls.specs.Release.{release}
 use Rattle.head_waits.specs.Snapshot.{snapshot, viewed}
 use Rattle.head_life.specs.Apply.{plan_apply, plan_held}
 use Rattle.head_ready.specs.Generations.{is_ready, slot_anchor}
-use Rattle.head_asks.specs.Asks.{completion, report, stats, heads, link}
+use Rattle.head_asks.specs.Asks.{completion, last_report, stats, heads, link}
 use Rattle.head_step.specs.Steps.{step}
 use Rattle.head_life.specs.Views.{current_view, generation_view, provisional_view, spare_view, view}
 use Rattle.head_waits.specs.Waits.{abandoned_view, readiness_by_wait, resume, resume_as, shown_by_wait, view_frees, wait, wait_as, waits_anew}
@@ -215,7 +215,7 @@ resume_fits d (Waiter.Ended a) n spare f h = anew_fits d n a spare f h
 -- ---- every call
 
 replied_fits : (d : Driver) (c : Call) → A.DriverFits d → Writable c → Replied (step d c)
-unfolding step claim claim_life release apply plan_apply snapshot viewed wait resume completion link report stats heads
+unfolding step claim claim_life release apply plan_apply snapshot viewed wait resume completion link last_report stats heads
 replied_fits d (Call.Deliver a p cold) f r = deliver_fits d a p cold f
 replied_fits d (Call.Claim ticket) f r = claimed_fits d (claim_held (delivery d.life.current) d.life ticket) (start_fits d (delivery d.life.current) ticket f (delivery_fits d.life.current f.life.current) r.0)
 replied_fits d (Call.Release owner) f r = tt

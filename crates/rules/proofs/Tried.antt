@@ -25,7 +25,7 @@ use Rattle.head_driver.specs.Parts.{with_life}
 use Rattle.head_life.specs.Apply.{plan_apply, plan_held}
 use Rattle.head_ready.specs.Generations.{slot_anchor}
 use Rattle.head_life.specs.State.{counted}
-use Rattle.head_asks.specs.Asks.{completion, report, stats, heads, link}
+use Rattle.head_asks.specs.Asks.{completion, last_report, stats, heads, link}
 use Rattle.head_step.specs.Steps.{step}
 use Rattle.head_waits.specs.Waits.{resume, resume_as, view_frees, wait, wait_as, waits_anew}
 use Rattle.head_waits.specs.Parts.{waiter_at}
@@ -176,7 +176,7 @@ resume_met d (Waiter.Ended a) n spare = past ended_taken (anew_met d (Call.Resum
 -- ---- every call
 
 pub step_met : (d : Driver) (c : Call) → Met d c (call_tests d c) (step d c)
-unfolding step deliver claim claim_life with_life release apply plan_apply snapshot viewed wait resume completion link report stats heads
+unfolding step deliver claim claim_life with_life release apply plan_apply snapshot viewed wait resume completion link last_report stats heads
 step_met d (Call.Deliver a p cold) = record { first = refl; leaves = tt }
 step_met d (Call.Claim ticket) = claim_met d ticket d.life.installed (delivery d.life.current) refl refl
 step_met d (Call.Release owner) = record { first = refl; leaves = tt }

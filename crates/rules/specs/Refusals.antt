@@ -82,7 +82,7 @@ IsSettled (CurrentHead.Settled s) = Unit {0}
 abbrev pub already_installed : Option Generation → Option HeadDelivery → Test
 already_installed installed head = test (HeadInstalled installed head) 13 []
 
--- the same where a claim asks: a settled head is installed in every driver that lines bring from a new one (`SettledInstalled`), and where it is not, a claim is refused so all the same
+-- the same where a claim asks: a settled head is installed in every driver that lines bring from a new one (`ClaimsInstalled`), and where it is not, a claim is refused so all the same
 abbrev pub already_settled : Option Generation → CurrentHead → Test
 already_settled installed c = test (HeadInstalled installed (delivery c) ⊎ IsSettled c) 13 []
 

@@ -21,12 +21,12 @@ Unchanged d q buffer Refusal.accepted d' buffer' = Unit {0}
 Unchanged d q buffer (Refusal.refused n names) d' buffer' = (d' ≡ after_refusal d q n) × (buffer' ≡ buffer)
 
 -- what a line gets, and the buffer after it
-pub record TurnedAs (d : Driver) (line buffer : List ℕ) (got : Turn) (after : List ℕ) : Type 0 where
+pub record TurnedAs (d : Driver) (line buffer : List ℕ) (got : Turn) (buffer' : List ℕ) : Type 0 where
   -- the answer is refusal N, naming those anchors, exactly where N's is the first condition that applies, and it is no refusal exactly where none applies
   pub exactly : (r : Refusal) → (line_refusal got.answer ≡ r) ↔ FirstThatApplies (tests d line buffer) r
   -- the answer's line says so
   pub says : Says (line_text got.answer) (line_refusal got.answer)
-  pub unchanged : Unchanged d (call line) buffer (line_refusal got.answer) got.driver after
+  pub unchanged : Unchanged d (call line) buffer (line_refusal got.answer) got.driver buffer'
 
 -- Every driver, line and buffer.
 abbrev pub TurnedAway : Type 0
@@ -39,6 +39,6 @@ ClaimsInstalled = (es : List Entry) (e : Entry) (ticket : HeadTicket) → call e
     → (line_refusal (turn_at (after new es) e).answer ≡ Refusal.refused 13 [])
     ↔ ((¬ (superseded (delivery (after new es).life.current) ticket).applies) × HeadInstalled (after new es).life.installed (delivery (after new es).life.current))
 
--- In a driver that keeps the invariant a settled head is installed, so a claim's 13 is just that the head is installed.
+-- In a driver that keeps the invariant a settled head is installed.
 abbrev pub SettledInstalled : Type 0
 SettledInstalled = (d : Driver) → Invariant d → IsSettled d.life.current → HeadInstalled d.life.installed (delivery d.life.current)

@@ -38,7 +38,7 @@ module _ (d : Driver) (pending₀ : List ℕ) (held : ℕ) (input out₀ : List 
   pub record Going (pending out : List ℕ) (fed : Fed) : Type 0 where
     pub kept : length pending ≡ length pending₀
     pub room : length out ≡ length out₀
-    pub usable : lent (reading d pending₀ held) out₀ ≡ true
+    pub lends : lent (reading d pending₀ held) out₀ ≡ true
     pub enough : 513 ≤ length pending₀
     pub few : fed.held ≤ 513
     pub within : fed.taken ≤ length input
@@ -62,7 +62,7 @@ module _ (d : Driver) (pending₀ : List ℕ) (held : ℕ) (input out₀ : List 
     going_first is = record {
       kept = refl;
       room = refl;
-      usable = sym e ∙ is;
+      lends = sym e ∙ is;
       enough = (lent_of (length pending₀) held (length out₀) t e is).room;
       few = (lent_of (length pending₀) held (length out₀) t e is).few;
       within = omega arith;
@@ -92,7 +92,7 @@ module _ (d : Driver) (pending₀ : List ℕ) (held : ℕ) (input out₀ : List 
         record {
           kept = p ∙ k;
           room = o ∙ m;
-          usable = g.usable;
+          lends = g.lends;
           enough = g.enough;
           few = f.few;
           within = f.within;
@@ -102,7 +102,7 @@ module _ (d : Driver) (pending₀ : List ℕ) (held : ℕ) (input out₀ : List 
 
     some : (fed.taken ≡ length input) ⊎ (length out₀ < fed.written + 4096)
         → TakesSome (reading d pending₀ held) (reading fed.driver pending fed.held) input out₀ out fed
-    some e = record { within = g.within; feeds = g.feeds; fits = g.fits; unusable = λ no. absurd (true≢false (sym g.usable ∙ no)); stops = λ yes. e }
+    some e = record { within = g.within; feeds = g.feeds; fits = g.fits; unusable = λ no. absurd (true≢false (sym g.lends ∙ no)); stops = λ yes. e }
 
     pub all_taken_lem : length input ≤ fed.taken → TakesSome (reading d pending₀ held) (reading fed.driver pending fed.held) input out₀ out fed
     all_taken_lem h = some (inl (let w = g.within in omega arith))

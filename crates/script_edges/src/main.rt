@@ -77,6 +77,7 @@ fn show_line(rt: &impl Print, answer: LineAnswer) {
 }
 
 // What a new driver answers to `(sheet)` with a lent buffer.
+#[tactic(auto, using(driver::proofs::Turned::line_exact))]
 fn sheet_asked(buf: &mut [u8]) -> LineAnswer
     ensures { AsksSheet buf.old buf.new result }
 {

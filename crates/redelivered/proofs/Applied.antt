@@ -1,0 +1,94 @@
+-- An apply that settles installs its ticket's block, with its handle and the readiness of its outcome.
+use Prim.Native.Nat.{ℕ}
+use mathlib.Core.Path.{◌≡◌, ap, ap₂, sym}
+use Rattle.std.proofs.lemmas.Bool.{cond_both}
+use Rattle.std.specs.Prelude.{Option, None, Some, not}
+use Rattle.head_values.specs.Anchors.{holds, same_anchor}
+use Rattle.head_values.specs.Lists.{as_prepared}
+use Rattle.head_values.specs.declared.BalSkip.{BalSkip}
+use Rattle.head_values.specs.declared.CarryOutcome.{CarryOutcome}
+use Rattle.head_values.specs.declared.PreparedBal.{PreparedBal}
+use Rattle.head_values.specs.declared.ReadAnchor.{ReadAnchor}
+use Rattle.head_ready.specs.Generations.{slot_anchor}
+use Rattle.head_ready.specs.declared.Generation.{Generation}
+use Rattle.head_ready.specs.declared.HeadOutcome.{HeadOutcome}
+use Rattle.head_current.specs.Heads.{delivery, has_ticket}
+use Rattle.head_current.specs.declared.HeadDelivery.{HeadDelivery}
+use Rattle.head_current.specs.declared.HeadTicket.{HeadTicket}
+use Rattle.head_life.specs.Apply.{plan_apply, plan_held, record_settle, settled_readiness}
+use Rattle.head_life.specs.declared.ApplyPlan.{ApplyPlan}
+use Rattle.head_life.specs.declared.HeadLifecycle.{HeadLifecycle}
+use Rattle.head_driver.specs.Moved.{moved}
+use Rattle.head_driver.specs.declared.Answer.{Answer}
+use Rattle.head_driver.specs.declared.Driver.{Driver}
+use Rattle.head_driver.specs.declared.Reply.{Reply}
+use Rattle.head_calls.specs.Apply.{apply, apply_planned, apply_settled}
+use Rattle.head_call.specs.declared.Call.{Call}
+use Rattle.head_step.specs.Steps.{step}
+use Rattle.alike.proofs.Tests.{true_from_not_false}
+use Rattle.rules.proofs.Conditions.{ticket_is}
+
+-- the outcome that an answer tells, if it tells one
+outcome_or : CarryOutcome → Answer → CarryOutcome
+outcome_or x (Answer.Ticket n) = x
+outcome_or x (Answer.Claimed e) = x
+outcome_or x Answer.Done = x
+outcome_or x (Answer.Outcome (HeadOutcome.Settled o)) = o
+outcome_or x (Answer.Outcome HeadOutcome.AlreadySettled) = x
+outcome_or x (Answer.Outcome HeadOutcome.InFlight) = x
+outcome_or x (Answer.Outcome (HeadOutcome.Superseded a)) = x
+outcome_or x (Answer.Outcome (HeadOutcome.Foreign list held)) = x
+outcome_or x (Answer.View v) = x
+outcome_or x Answer.Parked = x
+outcome_or x (Answer.Completion end) = x
+outcome_or x (Answer.Link link) = x
+outcome_or x (Answer.Report r) = x
+outcome_or x (Answer.Stats s) = x
+outcome_or x (Answer.Heads c i p) = x
+outcome_or x Answer.ListDisagrees = x
+outcome_or x Answer.WaiterAbove15 = x
+outcome_or x Answer.WaiterNotFree = x
+outcome_or x Answer.WaiterFree = x
+
+module _ (d : Driver) (ticket : HeadTicket) (handle : ℕ) (o : CarryOutcome) where
+  abbrev settled_as : ReadAnchor → CarryOutcome → Option Generation
+  settled_as a x = Some (record { anchor = a; handle = handle; readiness = settled_readiness x })
+
+  -- a reply that tells of that settle has installed it
+  abbrev Installs : Reply → Type 0
+  Installs r = r.answer ≡ Answer.Outcome (HeadOutcome.Settled o) → r.driver.life.installed ≡ settled_as ticket.anchor o
+
+  disagrees : {X : Type 0} → Answer.ListDisagrees ≡ Answer.Outcome (HeadOutcome.Settled o) → X
+  disagrees p = cc
+
+  superseded : {X : Type 0} {a : ReadAnchor} → Answer.Outcome (HeadOutcome.Superseded a) ≡ Answer.Outcome (HeadOutcome.Settled o) → X
+  superseded p = cc
+
+  foreign : {X : Type 0} {a b : ReadAnchor} → Answer.Outcome (HeadOutcome.Foreign a b) ≡ Answer.Outcome (HeadOutcome.Settled o) → X
+  foreign p = cc
+
+  already : {X : Type 0} → Answer.Outcome HeadOutcome.AlreadySettled ≡ Answer.Outcome (HeadOutcome.Settled o) → X
+  already p = cc
+
+  same : (a : ReadAnchor) (x : CarryOutcome) → a ≡ ticket.anchor → Answer.Outcome (HeadOutcome.Settled x) ≡ Answer.Outcome (HeadOutcome.Settled o)
+      → settled_as a x ≡ settled_as ticket.anchor o
+  unfolding outcome_or
+  same a x e p = ap₂ settled_as e (ap (outcome_or o) p)
+
+  module _ (skip : BalSkip) (carried report : ℕ) where
+    abbrev InstallsPlan : HeadLifecycle × ApplyPlan → Type 0
+    InstallsPlan r = Installs (apply_planned d r.0 r.1 skip handle carried report)
+
+    plan_installs : (s : Option HeadDelivery) (list : ReadAnchor) → InstallsPlan (plan_held s d.life ticket list)
+    unfolding plan_held apply_planned apply_settled moved record_settle
+    plan_installs None list = superseded
+    plan_installs (Some held) list =
+        cond_both (not (has_ticket held ticket)) _ _ InstallsPlan (λ e. superseded)
+        (λ e. cond_both (not (same_anchor list held.anchor)) _ _ InstallsPlan (λ f. foreign)
+        (λ f. cond_both (holds (slot_anchor d.life.installed) held.anchor) _ _ InstallsPlan (λ h. already)
+        (λ h p. same held.anchor _ (sym (ticket_is held ticket (true_from_not_false _ e)).0) p)))
+
+  pub apply_installs : (list : PreparedBal) (carried report : ℕ) → Installs (step d (Call.Apply ticket list handle carried report))
+  unfolding step apply plan_apply
+  apply_installs list carried report =
+      cond_both (not (as_prepared list)) _ _ Installs (λ e. disagrees) (λ e. plan_installs list.skip carried report (delivery d.life.current) list.anchor)
