@@ -70,8 +70,11 @@ module _ (d : Driver) (v : Invariant d) (g : Generation) (e : d.life.installed �
   anew_shows : (n spare : ℕ) → (waits_anew d n g.anchor spare).answer ≡ Answer.View (as_settled g)
   unfolding waits_anew view_frees viewed shown_by_wait slot_anchor
   anew_shows n spare =
-      rw (not_preparing d.life.current (slot_anchor d.life.installed) g.anchor (ap slot_anchor e) v.ordered.unsettled_elsewhere,
-        installed_read d.life g spare e, settled_shown g.readiness from_apply) refl
+      rw (
+        not_preparing d.life.current (slot_anchor d.life.installed) g.anchor (ap slot_anchor e) v.ordered.unsettled_elsewhere,
+        installed_read d.life g spare e,
+        settled_shown g.readiness from_apply,
+      ) refl
 
   wait_shows : (n spare : ℕ) → n ≤ 15 → waiter_at d.waiters n ≡ Waiter.Free → (wait d n g.anchor spare).answer ≡ Answer.View (as_settled g)
   unfolding wait wait_as

@@ -61,12 +61,13 @@ claim_13 : (d : Driver) → Invariant d → (e : Entry) (ticket : HeadTicket) �
 claim_13 d v e ticket q =
     let c = d.life.current in
     let x = (turned_away d e.line e.buffer).exactly refusal_13 in
-    let First = λ (l : Option LineCall). FirstThatApplies (no_call e.line ∷ later_tests d l e.buffer) refusal_13 in
-    (λ r.
-      let g = is_13 e.line d.life.installed c ticket (delivery c) (subst First q (x.0 r)) in
-      (g.0, either_installed (settled_installed d v) g.1),
-    λ g.
-      x.1 (subst First (sym q) (first_13 e.line d.life.installed c ticket (delivery c) (is_call e.line (Call.Claim ticket) q) (g.0, inl g.1))))
+    let First = λ (l : Option LineCall). FirstThatApplies (no_call e.line ∷ later_tests d l e.buffer) refusal_13 in (
+      λ r.
+          let g = is_13 e.line d.life.installed c ticket (delivery c) (subst First q (x.0 r)) in
+          (g.0, either_installed (settled_installed d v) g.1),
+      λ g.
+          x.1 (subst First (sym q) (first_13 e.line d.life.installed c ticket (delivery c) (is_call e.line (Call.Claim ticket) q) (g.0, inl g.1))),
+    )
 
 pub claims_installed : ClaimsInstalled
 claims_installed es e ticket q = claim_13 (after new es) (lines_keep new es holds_of_new) e ticket q
