@@ -89,16 +89,9 @@ module _ (d : Driver) (v : Invariant d) (g : Generation) (e : d.life.installed �
   asked_shows asked (by_snapshot spare q) = rw q (ap (λ (x : Answer). LineAnswer.Said x) (snapshot_shows spare))
   asked_shows asked (by_wait n spare h w q) = rw q (ap (λ (x : Answer). LineAnswer.Said x) (wait_shows n spare h w))
 
--- what a call's answer as a line's is
-said_or : Answer → LineAnswer → Answer
-said_or x (LineAnswer.Said a) = a
-said_or x LineAnswer.NoCall = x
-said_or x LineAnswer.SheetTooShort = x
-said_or x (LineAnswer.Sheet n) = x
-
+-- what a call answers as a line's answer
 said_of : {a b : Answer} → LineAnswer.Said a ≡ LineAnswer.Said b → a ≡ b
-unfolding said_or
-said_of {a} e = ap (said_or a) e
+said_of p = cc
 
 -- the line that delivers again
 again_keeps : (d : Driver) (again : Entry) (a : ReadAnchor) (c : Call) → call again.line ≡ Some (LineCall.Make c)

@@ -1,6 +1,6 @@
 -- An apply that settles installs its ticket's block, with its handle and the readiness of its outcome.
 use Prim.Native.Nat.{ℕ}
-use mathlib.Core.Path.{◌≡◌, ap, ap₂, sym}
+use mathlib.Core.Path.{◌≡◌, ap₂, sym}
 use Rattle.std.proofs.lemmas.Bool.{cond_both}
 use Rattle.std.specs.Prelude.{Option, None, Some, not}
 use Rattle.head_values.specs.Anchors.{holds, same_anchor}
@@ -28,27 +28,9 @@ use Rattle.head_step.specs.Steps.{step}
 use Rattle.alike.proofs.Tests.{true_from_not_false}
 use Rattle.rules.proofs.Conditions.{ticket_is}
 
--- the outcome that an answer tells, if it tells one
-outcome_or : CarryOutcome → Answer → CarryOutcome
-outcome_or x (Answer.Ticket n) = x
-outcome_or x (Answer.Claimed e) = x
-outcome_or x Answer.Done = x
-outcome_or x (Answer.Outcome (HeadOutcome.Settled o)) = o
-outcome_or x (Answer.Outcome HeadOutcome.AlreadySettled) = x
-outcome_or x (Answer.Outcome HeadOutcome.InFlight) = x
-outcome_or x (Answer.Outcome (HeadOutcome.Superseded a)) = x
-outcome_or x (Answer.Outcome (HeadOutcome.Foreign list held)) = x
-outcome_or x (Answer.View v) = x
-outcome_or x Answer.Parked = x
-outcome_or x (Answer.Completion end) = x
-outcome_or x (Answer.Link link) = x
-outcome_or x (Answer.Report r) = x
-outcome_or x (Answer.Stats s) = x
-outcome_or x (Answer.Heads c i p) = x
-outcome_or x Answer.ListDisagrees = x
-outcome_or x Answer.WaiterAbove15 = x
-outcome_or x Answer.WaiterNotFree = x
-outcome_or x Answer.WaiterFree = x
+-- two answers that tell of a settle tell one outcome
+told_same : {x o : CarryOutcome} → Answer.Outcome (HeadOutcome.Settled x) ≡ Answer.Outcome (HeadOutcome.Settled o) → x ≡ o
+told_same p = cc
 
 module _ (d : Driver) (ticket : HeadTicket) (handle : ℕ) (o : CarryOutcome) where
   abbrev settled_as : ReadAnchor → CarryOutcome → Option Generation
@@ -72,8 +54,7 @@ module _ (d : Driver) (ticket : HeadTicket) (handle : ℕ) (o : CarryOutcome) wh
 
   same : (a : ReadAnchor) (x : CarryOutcome) → a ≡ ticket.anchor → Answer.Outcome (HeadOutcome.Settled x) ≡ Answer.Outcome (HeadOutcome.Settled o)
       → settled_as a x ≡ settled_as ticket.anchor o
-  unfolding outcome_or
-  same a x e p = ap₂ settled_as e (ap (outcome_or o) p)
+  same a x e p = ap₂ settled_as e (told_same p)
 
   module _ (skip : BalSkip) (carried report : ℕ) where
     abbrev InstallsPlan : HeadLifecycle × ApplyPlan → Type 0
