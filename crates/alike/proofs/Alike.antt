@@ -161,7 +161,8 @@ unsettled_at (CurrentHead.Settled s) a = false
 
 -- a view's generations and head, where what comes after them is asked only if they don't fit
 
-generation_view_lem : (k : Source) (g : Option Generation) (a : ReadAnchor) (v w : HeadView) → (holds (slot_anchor g) a ≡ false → v ≡ w) → generation_view k g a v ≡ generation_view k g a w
+generation_view_lem : (k : Seq → Source) (g : Option Generation) (a : ReadAnchor) (v w : HeadView)
+    → (holds (slot_anchor g) a ≡ false → v ≡ w) → generation_view k g a v ≡ generation_view k g a w
 unfolding generation_view slot_anchor holds
 generation_view_lem k None a v w f = f refl
 generation_view_lem k (Some g) a v w f = by_test (same_anchor g.anchor a) (λ e. rw e refl) (λ e. rw e (f e))
@@ -220,15 +221,17 @@ module _ (i p : Option Generation) (n : Seq) (e : Epoch) (t : HeadStats) (ws : L
   -- a head that settles still hides its own anchor
   alike_settled : {c₁ c₂ : CurrentHead} (s₁ s₂ : Option ReadAnchor) → SameHead c₁ c₂ → SameSuperseded c₁ p s₁ s₂
       → WhenSettled c₁ (λ s. slot_anchor i ≡ Some s.delivery.anchor) → (held : HeadDelivery) → delivery c₁ ≡ Some held → holds (slot_anchor i) held.anchor ≡ false
-      → (a : ReadAnchor) (o : CarryOutcome) (handle report : ℕ)
-      → Alike (moved (having c₁ s₁) (record_settle (having c₁ s₁).life a o handle report) HeadCompletion.Settled) (moved (having c₂ s₂) (record_settle (having c₂ s₂).life a o handle report) HeadCompletion.Settled)
+      → (by : HeadDelivery) (o : CarryOutcome) (handle report : ℕ)
+      → Alike (moved (having c₁ s₁) (record_settle (having c₁ s₁).life by o handle report) HeadCompletion.Settled)
+      (moved (having c₂ s₂) (record_settle (having c₂ s₂).life by o handle report) HeadCompletion.Settled)
   unfolding moved record_settle settled_head settling_epoch published_abandonment publish first_end settled woken_waiters is_preparing delivery
-  alike_settled s₁ s₂ both_absent m f held q b a o handle report = nothing_held q
-  alike_settled s₁ s₂ (both_unclaimed v h x y z) m f held q b a o handle report = by_test (is_abandoned z)
+  alike_settled s₁ s₂ both_absent m f held q b by o handle report = nothing_held q
+  alike_settled s₁ s₂ (both_unclaimed v h x y z) m f held q b by o handle report = by_test (is_abandoned z)
       (λ t. rw t (alike (both_settled v _ _ _ _) (λ c k. m c (k.0, tt))))
       (λ t. rw t (alike (both_settled v _ _ _ _) (λ c k. m c (k.0, tt))))
-  alike_settled s₁ s₂ (both_preparing u) m f held q b a o handle report = alike (same_head _) (λ c z. m c (z.0, tt))
-  alike_settled s₁ s₂ (both_settled v r x y z) m f held q b a o handle report = true_false (same_holds _ _ (f ∙ ap (λ k. Some k.anchor) (held_same q))) b
+  alike_settled s₁ s₂ (both_preparing u) m f held q b by o handle report = alike (same_head _) (λ c z. m c (z.0, tt))
+  alike_settled s₁ s₂ (both_settled v r x y z) m f held q b by o handle report =
+      true_false (same_holds _ _ (f ∙ ap (λ k. Some k.anchor) (held_same q))) b
 
   -- a head that stays as it is, with the counters changed
   alike_still : {c₁ c₂ : CurrentHead} (s₁ s₂ : Option ReadAnchor) → SameHead c₁ c₂ → SameSuperseded c₁ p s₁ s₂ → (end : HeadCompletion) (x : HeadStats)
@@ -278,7 +281,7 @@ module _ (i p : Option Generation) (n : Seq) (e : Epoch) (t : HeadStats) (ws : L
         both_tests B (not (has_ticket held ticket)) (λ b. record { answer = refl; driver = alike w m })
         (λ b. both_tests B (not (same_anchor list.anchor held.anchor)) (λ b. record { answer = refl; driver = alike w m })
         (λ b. both_tests B (holds (slot_anchor i) held.anchor) (λ b. record { answer = refl; driver = alike w m })
-        (λ b. record { answer = refl; driver = alike_settled s₁ s₂ w m f held q b held.anchor _ handle report })))
+        (λ b. record { answer = refl; driver = alike_settled s₁ s₂ w m f held q b held _ handle report })))
 
     both_apply : (ticket : HeadTicket) (list : PreparedBal) (handle carried report : ℕ) → Both (apply d₁ ticket list handle carried report) (apply d₂ ticket list handle carried report)
     unfolding apply plan_apply

@@ -175,7 +175,7 @@ pub record Colded (d : Driver) (a : ReadAnchor) (e : Driver) : Type 0 where
 
 settle_colded : (d : Driver) (held : HeadDelivery) (o : CarryOutcome) (a : ReadAnchor) → previous_after d.life.installed o ≡ None → held.anchor ≡ a
     → Settles (settled_head d.life.current (settling_epoch d.life) (report_of o 0)) held (report_of o 0)
-    → Colded d a (moved d (record_settle d.life held.anchor o 0 0) HeadCompletion.Settled)
+    → Colded d a (moved d (record_settle d.life held o 0 0) HeadCompletion.Settled)
 unfolding moved record_settle anchor_of delivery slot_anchor
 settle_colded d held o a p q s = record {
   settles = ap pose s.1;

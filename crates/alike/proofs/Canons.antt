@@ -69,6 +69,8 @@ ordered_alike (Alike.alike {s₁ = s₁} {s₂ = s₂} {i = i} {p = p} {e = e} w
   report_installed = rw (same_report w) at v.report_installed;
   preparing_epoch = same_by w (Unit {0}) (λ h t. Unit {0}) (λ u. 1 ≤ e.0) (λ h t. Unit {0}) v.preparing_epoch;
   abandoned_epoch = same_by w (Unit {0}) (λ h t. t ≡ HeadCompletion.Abandoned → 1 ≤ e.0) Any (λ h t. Unit {0}) v.abandoned_epoch;
+  installed_number = v.installed_number;
+  previous_number = v.previous_number;
 }
 
 -- a head that is shown

@@ -58,7 +58,7 @@ probe_epoch {d₁} {d₂} w x y =
 
 previous_settled : {d₁ d₂ : Driver} → Twin d₁ d₂ → (Unsettled (pose d₁.life.current) → ⊥) → d₁.life.previous ≡ d₂.life.previous
 unfolding step
-previous_settled {d₁} {d₂} w n = same_generation Source.Previous d₁.life.previous d₂.life.previous (probe_anchors w).2
+previous_settled {d₁} {d₂} w n = same_generation Source.Previous (λ n. refl) d₁.life.previous d₂.life.previous (probe_anchors w).2
     (λ g₁ g₂ p q e.
     let v₁ = w.invariant₁.ordered in
     let v₂ = w.invariant₂.ordered in

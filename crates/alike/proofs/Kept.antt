@@ -36,6 +36,8 @@ holds_of_new = record {
     report_installed = tt;
     preparing_epoch = tt;
     abandoned_epoch = tt;
+    installed_number = tt;
+    previous_number = tt;
   };
   parks = free_none 16;
   fits = record {

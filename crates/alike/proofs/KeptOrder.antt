@@ -1,10 +1,11 @@
--- Every call keeps the lifecycle's rules, I1 to I6 and I8 to I10.
+-- Every call keeps the lifecycle's rules, I1 to I6 and I8 to I11.
 use Rattle.std.proofs.lemmas.Bool.{cond_both, and_parts}
 use Rattle.std.specs.Prelude.{Option, None, Some, not, ◌&&◌}
 use Rattle.head_current.specs.declared.DeltaReport.{DeltaReport}
-use Prim.Native.Nat.{ℕ, ◌+◌}
+use Prim.Native.Nat.{ℕ, ◌+◌, ◌≤◌}
 use mathlib.Core.Bool.{Bool, true, false}
 use mathlib.Core.Path.{◌≡◌, refl, sym, ap, ◌∙◌, subst}
+use native.Mathlib.Omega.{arith}
 use lib.Dec.{eqb}
 use borrow.Author.Tests.{eqb-true}
 use Rattle.head_values.specs.Anchors.{holds}
@@ -30,6 +31,7 @@ use Rattle.head_attempt.specs.declared.ClaimAttempt.{ClaimAttempt}
 use Rattle.head_count.specs.declared.Epoch.{Epoch}
 use Rattle.head_attempt.specs.declared.HeadCompletion.{HeadCompletion}
 use Rattle.head_count.specs.declared.HeadStats.{HeadStats}
+use Rattle.head_count.specs.declared.Seq.{Seq}
 use Rattle.head_current.specs.declared.CurrentHead.{CurrentHead}
 use Rattle.head_current.specs.declared.HeadDelivery.{HeadDelivery}
 use Rattle.head_current.specs.declared.UnsettledHead.{UnsettledHead}
@@ -38,8 +40,8 @@ use Rattle.head_ready.specs.declared.Generation.{Generation}
 use Rattle.head_life.specs.declared.HeadLifecycle.{HeadLifecycle}
 use Rattle.head_call.specs.declared.Call.{Call}
 use Rattle.alike.proofs.Moves.{Move, step_move}
-use Rattle.alike.proofs.Tests.{holds_same, same_holds, true_false, true_from_not_false, up_positive}
-use Rattle.alike.specs.Invariant.{Follows, FromApply, OpenOrAbandoned, Ordered, WhenGeneration}
+use Rattle.alike.proofs.Tests.{holds_same, same_holds, true_false, true_from_not_false, up_least, up_positive}
+use Rattle.alike.specs.Invariant.{Follows, FromApply, NumberAtMost, OpenOrAbandoned, Ordered, WhenGeneration}
 use Rattle.head_life.specs.Apply.{settling_epoch}
 use Rattle.head_life.specs.Deliver.{new_head}
 use Rattle.head_driver.specs.Moved.{moved}
@@ -64,6 +66,8 @@ ordered_stats l s e v = record {
   report_installed = v.report_installed;
   preparing_epoch = v.preparing_epoch;
   abandoned_epoch = v.abandoned_epoch;
+  installed_number = v.installed_number;
+  previous_number = v.previous_number;
 }
 
 -- deliver
@@ -75,6 +79,17 @@ count_delivered true true s = refl
 count_delivered true false s = refl
 count_delivered false true s = refl
 count_delivered false false s = refl
+
+-- a number that is at most seq is at most the next seq
+number_rises : (i : Option Generation) (n : Seq)
+    → WhenGeneration i (NumberAtMost n.0) → WhenGeneration i (NumberAtMost (next_seq n).0)
+unfolding next_seq
+number_rises None n h = tt
+number_rises (Some g) n h = omega (arith, h, up_least n.0)
+
+-- equal delivery numbers, as a bound
+seq_at_most : (m n : Seq) → m ≡ n → m.0 ≤ n.0
+seq_at_most m n e = rw e (omega arith)
 
 open_abandoned : {X : Type 0} → HeadCompletion.Open ≡ HeadCompletion.Abandoned → X
 open_abandoned e = cc
@@ -102,6 +117,8 @@ module _ (l : HeadLifecycle) (v : Ordered l) where
     report_installed = tt;
     preparing_epoch = tt;
     abandoned_epoch = tt;
+    installed_number = number_rises l.installed l.seq v.installed_number;
+    previous_number = number_rises l.previous l.seq v.previous_number;
   }
   ordered_delivered false a p cold e = record {
     seq_delivered = next_delivered false;
@@ -119,6 +136,8 @@ module _ (l : HeadLifecycle) (v : Ordered l) where
     report_installed = tt;
     preparing_epoch = tt;
     abandoned_epoch = open_abandoned;
+    installed_number = number_rises l.installed l.seq v.installed_number;
+    previous_number = number_rises l.previous l.seq v.previous_number;
   }
 
   -- claim and release
@@ -141,6 +160,8 @@ module _ (l : HeadLifecycle) (v : Ordered l) where
     report_installed = tt;
     preparing_epoch = up_positive _;
     abandoned_epoch = tt;
+    installed_number = v.installed_number;
+    previous_number = v.previous_number;
   })
 
   ordered_released : (u : UnsettledHead) → l.current ≡ CurrentHead.Preparing u → Ordered (released_at l u)
@@ -163,6 +184,8 @@ module _ (l : HeadLifecycle) (v : Ordered l) where
         report_installed = tt;
         preparing_epoch = tt;
         abandoned_epoch = λ z. rw q at v.preparing_epoch;
+        installed_number = v.installed_number;
+        previous_number = v.previous_number;
       }
 
 -- apply
@@ -172,11 +195,12 @@ outcome_faulty : (link : Link) (skip : BalSkip) (carried : ℕ) → FromApply (s
 unfolding outcome settled_readiness
 outcome_faulty link skip carried = cond_both (is_linked link && is_decoded skip) _ _ (λ o. FromApply (settled_readiness o)) (λ e. tt) (λ e. e)
 
--- what becomes previous keeps its readiness
-previous_kept : (i : Option Generation) (o : CarryOutcome) → WhenGeneration i (λ g. FromApply g.readiness) → WhenGeneration (previous_after i o) (λ g. FromApply g.readiness)
+-- what becomes previous keeps its readiness and its number
+previous_kept : (P : Generation → Type 0) (i : Option Generation) (o : CarryOutcome)
+    → WhenGeneration i P → WhenGeneration (previous_after i o) P
 unfolding previous_after
-previous_kept i (CarryOutcome.Carried n) f = f
-previous_kept i (CarryOutcome.Cold link skip) f = tt
+previous_kept P i (CarryOutcome.Carried n) f = f
+previous_kept P i (CarryOutcome.Cold link skip) f = tt
 
 -- and is one number lower: only a linked head is carried
 carried_below : (g q : Generation) (o : CarryOutcome) → q.anchor.number + 1 ≡ g.anchor.number → Follows (Some g) (previous_after (Some q) o)
@@ -229,7 +253,7 @@ module _ (l : HeadLifecycle) (v : Ordered l) (held : HeadDelivery) (elsewhere : 
   seq_held c q h = rw (q, h) at v.seq_current
 
   ordered_settled : (p : Hash) (skip : BalSkip) (carried handle report : ℕ) → delivery l.current ≡ Some held
-      → Ordered (record_settle l held.anchor (apply_prepared (slot_anchor l.installed) held.anchor p skip carried) handle report)
+      → Ordered (record_settle l held (apply_prepared (slot_anchor l.installed) held.anchor p skip carried) handle report)
   unfolding record_settle delivery current_report
   ordered_settled p skip carried handle report h =
       let o = apply_prepared (slot_anchor l.installed) held.anchor p skip carried in
@@ -244,13 +268,18 @@ module _ (l : HeadLifecycle) (v : Ordered l) (held : HeadDelivery) (elsewhere : 
         unsettled_elsewhere = tt;
         unclaimed_end = tt;
         absent_rest = tt;
-        previous_below = applied_below l.installed (record { anchor = held.anchor; handle = handle; readiness = settled_readiness o }) p skip carried;
+        previous_below =
+            applied_below l.installed
+            (record { anchor = held.anchor; handle = handle; seq = held.seq; readiness = settled_readiness o })
+            p skip carried;
         installed_readiness = f;
-        previous_readiness = previous_kept l.installed o v.installed_readiness;
+        previous_readiness = previous_kept (λ g. FromApply g.readiness) l.installed o v.installed_readiness;
         report_readiness = f;
         report_installed = refl;
         preparing_epoch = tt;
         abandoned_epoch = tt;
+        installed_number = seq_at_most held.seq l.seq (seq_held l.current refl h);
+        previous_number = previous_kept (NumberAtMost l.seq.0) l.installed o v.installed_number;
       })
 
 -- every call

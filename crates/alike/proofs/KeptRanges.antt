@@ -168,14 +168,15 @@ module _ (l : HeadLifecycle) (f : LifeFits l) where
   released_life_fits : (u : UnsettledHead) → UnsettledFits u → LifeFits (released_at l u)
   released_life_fits u g = record { current = released_fits u g; superseded = f.superseded; installed = f.installed; previous = f.previous; seq = f.seq; epoch = f.epoch; stats = f.stats }
 
-  settled_life_fits : (a : ReadAnchor) (o : CarryOutcome) (handle report : ℕ) → AnchorFits a → OutcomeFits o → Fits handle → Fits report → LifeFits (record_settle l a o handle report)
+  settled_life_fits : (held : HeadDelivery) (o : CarryOutcome) (handle report : ℕ)
+      → DeliveryFits held → OutcomeFits o → Fits handle → Fits report → LifeFits (record_settle l held o handle report)
   unfolding record_settle
-  settled_life_fits a o handle report x y h r =
+  settled_life_fits held o handle report x y h r =
       let e = settling_fits l f.epoch in
       record {
         current = settled_fits l.current _ (report_of o report) f.current e (y, r);
         superseded = f.superseded;
-        installed = record { anchor = x; handle = h; readiness = readiness_fits o y };
+        installed = record { anchor = x.anchor; handle = h; seq = x.seq; readiness = readiness_fits o y };
         previous = previous_fits l.installed o f.installed;
         seq = f.seq;
         epoch = e;
@@ -205,7 +206,8 @@ fits_move {d} (Move.delivers a p cold) r f = moved_fits d _ _ f (delivered_fits 
 fits_move {d} (Move.claims u q) r f = with_life_fits d _ f (claimed_life_fits d.life f.life)
 fits_move {d} (Move.releases u q) r f = moved_fits d _ _ f (released_life_fits d.life f.life u (rw q at f.life.current))
 fits_move {d} (Move.settles ticket list handle carried report held q e) r f = moved_fits d _ _ f
-    (settled_life_fits d.life f.life held.anchor _ handle report (held_fits d.life.current held q f.life.current).anchor (outcome_fits _ _ _ list.skip carried r.3 r.5) r.4 r.6)
+    (settled_life_fits d.life f.life held _ handle report (held_fits d.life.current held q f.life.current)
+    (outcome_fits _ _ _ list.skip carried r.3 r.5) r.4 r.6)
 
 pub fits_step : (d : Driver) (c : Call) → Writable c → DriverFits d → DriverFits (step d c).driver
 fits_step d c r f = fits_move (step_move d c) r f

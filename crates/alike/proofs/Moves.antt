@@ -63,7 +63,10 @@ pub data Move (d : Driver) : Call → Driver → Type 0 where
   settles : (ticket : HeadTicket) (list : PreparedBal) (handle carried report : ℕ) (held : HeadDelivery) → delivery d.life.current ≡ Some held
       → holds (slot_anchor d.life.installed) held.anchor ≡ false
       → Move d (Call.Apply ticket list handle carried report)
-      (moved d (record_settle d.life held.anchor (apply_prepared (slot_anchor d.life.installed) held.anchor held.parent_hash list.skip carried) handle report) HeadCompletion.Settled)
+      (moved d
+      (record_settle d.life held
+      (apply_prepared (slot_anchor d.life.installed) held.anchor held.parent_hash list.skip carried) handle report)
+      HeadCompletion.Settled)
 
 -- a property of the driver that a reply leaves
 abbrev Leaves : Driver → Call → Reply → Type 0

@@ -8,10 +8,9 @@ use Rattle.hash.specs.Hashes.{same_hash}
 use Rattle.head_attempt.specs.Attempts.{minted}
 use Rattle.head_count.specs.Counters.{next_seq, seq_of, up}
 use Rattle.head_current.specs.Heads.{delivery, current_report, published}
-use Rattle.head_ready.specs.Generations.{slot_anchor}
+use Rattle.head_ready.specs.Generations.{slot_anchor, view_of}
 use Rattle.head_asks.specs.Asks.{last_report, stats, heads}
 use Rattle.head_step.specs.Steps.{step}
-use Rattle.head_life.specs.Views.{view_of}
 use Rattle.hash.specs.declared.Hash.{Hash}
 use Rattle.head_values.specs.declared.ReadAnchor.{ReadAnchor}
 use Rattle.head_count.specs.declared.Epoch.{Epoch}
@@ -22,6 +21,7 @@ use Rattle.head_driver.specs.declared.Driver.{Driver}
 use Rattle.head_ready.specs.declared.Generation.{Generation}
 use Rattle.head_ready.specs.declared.HeadCold.{HeadCold}
 use Rattle.head_ready.specs.declared.HeadReadiness.{HeadReadiness}
+use Rattle.head_ready.specs.declared.HeadView.{HeadView}
 use Rattle.head_ready.specs.declared.Source.{Source}
 use Rattle.head_call.specs.declared.Call.{Call}
 use Rattle.alike.proofs.Alike.{SameHead}
@@ -55,19 +55,29 @@ claim_pose (CurrentHead.Settled x) (CurrentHead.Unclaimed y) e₁ e₂ q = cc
 claim_pose (CurrentHead.Settled x) (CurrentHead.Preparing y) e₁ e₂ q = cc
 claim_pose (CurrentHead.Settled x) (CurrentHead.Settled y) e₁ e₂ q = refl
 
+-- the number that a generation's source has
+abbrev pub told_number : Source → Seq
+told_number (Source.Installed n) = n
+told_number Source.Provisional = seq_of 0
+told_number (Source.Previous n) = n
+told_number Source.Spare = seq_of 0
+
 -- two slots with one anchor, that show the same at it
-pub same_generation : (s : Source) (i₁ i₂ : Option Generation) → slot_anchor i₁ ≡ slot_anchor i₂
-    → ((g₁ g₂ : Generation) → i₁ ≡ Some g₁ → i₂ ≡ Some g₂ → g₂.anchor ≡ g₁.anchor → Answer.View (view_of s g₁.handle g₁.readiness) ≡ Answer.View (view_of s g₂.handle g₂.readiness))
+pub same_generation : (s : Seq → Source) → ((n : Seq) → told_number (s n) ≡ n)
+    → (i₁ i₂ : Option Generation) → slot_anchor i₁ ≡ slot_anchor i₂
+    → ((g₁ g₂ : Generation) → i₁ ≡ Some g₁ → i₂ ≡ Some g₂ → g₂.anchor ≡ g₁.anchor
+    → Answer.View (view_of (s g₁.seq) g₁.handle g₁.readiness) ≡ Answer.View (view_of (s g₂.seq) g₂.handle g₂.readiness))
     → i₁ ≡ i₂
 unfolding slot_anchor
-same_generation s None None e f = refl
-same_generation s None (Some g₂) e f = nothing_at e
-same_generation s (Some g₁) None e f = nothing_at (sym e)
-same_generation s (Some g₁) (Some g₂) e f =
+same_generation s b None None e f = refl
+same_generation s b None (Some g₂) e f = nothing_at e
+same_generation s b (Some g₁) None e f = nothing_at (sym e)
+same_generation s b (Some g₁) (Some g₂) e f =
     let q = f g₁ g₂ refl refl (sym (same_Some _ _ e)) in
-    let v : view_of s g₁.handle g₁.readiness ≡ view_of s g₂.handle g₂.readiness = cc in
+    let v : view_of (s g₁.seq) g₁.handle g₁.readiness ≡ view_of (s g₂.seq) g₂.handle g₂.readiness = cc in
+    let n = sym (b g₁.seq) ∙ ap (λ (x : HeadView). told_number x.source) v ∙ b g₂.seq in
     let a = same_Some _ _ e in
-    λ j. Some (record { anchor = a j; handle = (v j).handle; readiness = (v j).readiness })
+    λ j. Some (record { anchor = a j; handle = (v j).handle; seq = n j; readiness = (v j).readiness })
 
 -- the old ticket is not the next one
 same_parent : (p x : Hash) (m n : Seq) → m ≡ n → m.0 < 0xffff_ffff_ffff_ffff → Answer.Ticket (cond (same_hash p p) m (next_seq m)) ≡ Answer.Ticket (cond (same_hash x p) n (next_seq n)) → p ≡ x
@@ -111,7 +121,7 @@ module _ {d₁ d₂ : Driver} (w : Twin d₁ d₂) where
 
   pub probe_installed : d₁.life.installed ≡ d₂.life.installed
   unfolding step
-  probe_installed = same_generation Source.Installed d₁.life.installed d₂.life.installed probe_anchors.1
+  probe_installed = same_generation Source.Installed (λ n. refl) d₁.life.installed d₂.life.installed probe_anchors.1
       (λ g₁ g₂ p q e. sym (snapshot_installed d₁ v₁ g₁ g₁.anchor 0 p refl)
       ∙ twin_answer w (Call.Snapshot g₁.anchor 0) ((rw p at w.invariant₁.fits.life.installed).anchor, zero_fits)
       ∙ snapshot_installed d₂ v₂ g₂ g₁.anchor 0 q e)

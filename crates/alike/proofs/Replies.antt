@@ -13,9 +13,9 @@ use Rattle.head_life.specs.Deliver.{repeats, deliver_life, old_seq}
 use Rattle.head_calls.specs.Claim.{claim, claim_answer}
 use Rattle.head_calls.specs.Deliver.{deliver}
 use Rattle.head_waits.specs.Snapshot.{snapshot, viewed}
-use Rattle.head_ready.specs.Generations.{slot_anchor}
+use Rattle.head_ready.specs.Generations.{slot_anchor, view_of}
 use Rattle.head_asks.specs.Asks.{completion}
-use Rattle.head_life.specs.Views.{current_view, generation_view, provisional_view, spare_view, view, view_of}
+use Rattle.head_life.specs.Views.{current_view, generation_view, provisional_view, spare_view, view}
 use Rattle.hash.specs.declared.Hash.{Hash}
 use Rattle.head_values.specs.declared.ReadAnchor.{ReadAnchor}
 use Rattle.head_count.specs.declared.Seq.{Seq}
@@ -42,11 +42,13 @@ ticket_ok held a n p q = rw (p, q, anchor_same a a refl, eqb_same) refl
 
 -- the four views
 
-view_here : (k : Source) (g : Generation) (a : ReadAnchor) (o : HeadView) → g.anchor ≡ a → generation_view k (Some g) a o ≡ view_of k g.handle g.readiness
+view_here : (k : Seq → Source) (g : Generation) (a : ReadAnchor) (o : HeadView)
+    → g.anchor ≡ a → generation_view k (Some g) a o ≡ view_of (k g.seq) g.handle g.readiness
 unfolding generation_view
 view_here k g a o e = rw (anchor_same _ _ e) refl
 
-view_pass : (k : Source) (s : Option Generation) (a : ReadAnchor) (o : HeadView) → holds (slot_anchor s) a ≡ false → generation_view k s a o ≡ o
+view_pass : (k : Seq → Source) (s : Option Generation) (a : ReadAnchor) (o : HeadView)
+    → holds (slot_anchor s) a ≡ false → generation_view k s a o ≡ o
 unfolding generation_view slot_anchor holds
 view_pass k None a o e = refl
 view_pass k (Some g) a o e = rw e refl
@@ -66,7 +68,7 @@ current_pass (CurrentHead.Preparing x) a o e = rw e refl
 current_pass (CurrentHead.Settled x) a o e = refl
 
 module _ (l : HeadLifecycle) (a : ReadAnchor) (spare : ℕ) where
-  view_installed : (g : Generation) → l.installed ≡ Some g → g.anchor ≡ a → view l a spare ≡ view_of Source.Installed g.handle g.readiness
+  view_installed : (g : Generation) → l.installed ≡ Some g → g.anchor ≡ a → view l a spare ≡ view_of (Source.Installed g.seq) g.handle g.readiness
   unfolding view
   view_installed g e p = rw e (view_here _ g a _ p)
 
@@ -74,7 +76,8 @@ module _ (l : HeadLifecycle) (a : ReadAnchor) (spare : ℕ) where
   unfolding view
   view_current u e o = view_pass _ l.installed a _ o ∙ current_here l.current a _ u e
 
-  view_previous : (g : Generation) → holds (slot_anchor l.installed) a ≡ false → unsettled_at l.current a ≡ false → l.previous ≡ Some g → g.anchor ≡ a → view l a spare ≡ view_of Source.Previous g.handle g.readiness
+  pub view_previous : (g : Generation) → holds (slot_anchor l.installed) a ≡ false → unsettled_at l.current a ≡ false
+      → l.previous ≡ Some g → g.anchor ≡ a → view l a spare ≡ view_of (Source.Previous g.seq) g.handle g.readiness
   unfolding view
   view_previous g x y e p = view_pass _ l.installed a _ x ∙ current_pass l.current a _ y ∙ rw e (view_here _ g a _ p)
 
@@ -111,12 +114,13 @@ module _ (d : Driver) (v : Ordered d.life) where
   unfolding snapshot viewed
   snapshot_current a spare u e = ap Answer.View (view_current d.life a spare u e (not_installed d.life v _ refl u a e))
 
-  pub snapshot_installed : (g : Generation) (a : ReadAnchor) (spare : ℕ) → d.life.installed ≡ Some g → g.anchor ≡ a → (snapshot d a spare).answer ≡ Answer.View (view_of Source.Installed g.handle g.readiness)
+  pub snapshot_installed : (g : Generation) (a : ReadAnchor) (spare : ℕ) → d.life.installed ≡ Some g → g.anchor ≡ a
+      → (snapshot d a spare).answer ≡ Answer.View (view_of (Source.Installed g.seq) g.handle g.readiness)
   unfolding snapshot viewed
   snapshot_installed g a spare e p = ap Answer.View (view_installed d.life a spare g e p)
 
   pub snapshot_previous : (g : Generation) (a : ReadAnchor) (spare : ℕ) → holds (installed_anchor d) a ≡ false → unsettled_at d.life.current a ≡ false → d.life.previous ≡ Some g → g.anchor ≡ a
-      → (snapshot d a spare).answer ≡ Answer.View (view_of Source.Previous g.handle g.readiness)
+      → (snapshot d a spare).answer ≡ Answer.View (view_of (Source.Previous g.seq) g.handle g.readiness)
   unfolding snapshot viewed
   snapshot_previous g a spare x y e p = ap Answer.View (view_previous d.life a spare g x y e p)
 

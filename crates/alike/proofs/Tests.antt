@@ -104,6 +104,11 @@ pub up_fits : (n : ℕ) → Fits n → Fits (up n)
 unfolding up
 up_fits n h = cond_both (ltb n 0xffff_ffff_ffff_ffff) (n + 1) n Fits (λ e. omega (arith, ltb-true n 0xffff_ffff_ffff_ffff e)) (λ e. h)
 
+-- no counter falls
+pub up_least : (n : ℕ) → n ≤ up n
+unfolding up
+up_least n = cond_both (ltb n 0xffff_ffff_ffff_ffff) (n + 1) n (λ x. n ≤ x) (λ e. omega arith) (λ e. omega arith)
+
 -- one more is at least 1, at the limit too
 pub up_positive : (n : ℕ) → 1 ≤ up n
 unfolding up

@@ -23,10 +23,10 @@ use Rattle.head_driver.specs.Parts.{with_life}
 use Rattle.head_calls.specs.Claim.{claim}
 use Rattle.head_calls.specs.Deliver.{deliver}
 use Rattle.head_waits.specs.Snapshot.{viewed}
-use Rattle.head_ready.specs.Generations.{is_ready}
+use Rattle.head_ready.specs.Generations.{is_ready, view_of}
 use Rattle.head_life.specs.State.{counted}
 use Rattle.head_step.specs.Steps.{step}
-use Rattle.head_life.specs.Views.{generation_view, spare_view, view, view_of}
+use Rattle.head_life.specs.Views.{generation_view, spare_view, view}
 use Rattle.head_waits.specs.Waits.{abandoned_view, waits_anew, resume, resume_as, shown_by_wait, view_frees, resume_as}
 use Rattle.head_waits.specs.Parts.{waiter_at}
 use Rattle.hash.specs.declared.Hash.{Hash}
@@ -74,9 +74,9 @@ abbrev shown_elsewhere : ℕ
 shown_elsewhere = 3
 
 abbrev source_tells : Source → ℕ
-source_tells Source.Installed = shown_elsewhere
+source_tells (Source.Installed n) = shown_elsewhere
 source_tells Source.Provisional = shown_here
-source_tells Source.Previous = shown_elsewhere
+source_tells (Source.Previous n) = shown_elsewhere
 source_tells Source.Spare = shown_elsewhere
 
 abbrev tells : Answer → ℕ
@@ -113,14 +113,19 @@ prepares_at c a k e b =
     rw (u.1, z) (refl, refl)
 
 -- a view of another anchor than the unsettled head's is never provisional
-generation_source : (k : Source) (g : Option Generation) (a : ReadAnchor) (o : HeadView) → source_tells k ≡ shown_elsewhere → source_tells o.source ≡ shown_elsewhere → source_tells (generation_view k g a o).source ≡ shown_elsewhere
+generation_source : (k : Seq → Source) (g : Option Generation) (a : ReadAnchor) (o : HeadView)
+    → ((n : Seq) → source_tells (k n) ≡ shown_elsewhere) → source_tells o.source ≡ shown_elsewhere
+    → source_tells (generation_view k g a o).source ≡ shown_elsewhere
 unfolding generation_view
 generation_source k None a o p q = q
-generation_source k (Some g) a o p q = cond_both (same_anchor g.anchor a) _ _ (λ (v : HeadView). source_tells v.source ≡ shown_elsewhere) (λ e. p) (λ e. q)
+generation_source k (Some g) a o p q =
+    cond_both (same_anchor g.anchor a) _ _ (λ (v : HeadView). source_tells v.source ≡ shown_elsewhere) (λ e. p g.seq) (λ e. q)
 
 view_source : (l : HeadLifecycle) (b : ReadAnchor) (spare : ℕ) → unsettled_at l.current b ≡ false → source_tells (view l b spare).source ≡ shown_elsewhere
 unfolding view spare_view
-view_source l b spare e = generation_source _ l.installed b _ refl (rw (current_pass l.current b _ e) (generation_source _ l.previous b _ refl refl))
+view_source l b spare e =
+    generation_source _ l.installed b _ (λ n. refl)
+    (rw (current_pass l.current b _ e) (generation_source _ l.previous b _ (λ n. refl) refl))
 
 abandoned_source : (v : HeadView) (spare : ℕ) → source_tells v.source ≡ shown_elsewhere → source_tells (abandoned_view v spare).source ≡ shown_elsewhere
 unfolding abandoned_view

@@ -1,7 +1,7 @@
--- What every driver keeps, whatever calls it gets: the state's own rules, I1 to I10, and the ranges of its numbers. What a sheet shows, taken as a driver, keeps it too, so no
--- more than this may be used of a driver.
+-- What every driver keeps, whatever calls it gets: the state's own rules, I1 to I11, and the ranges of its numbers. What a
+-- sheet shows, taken as a driver, keeps it too, so no more than this may be used of a driver.
 use Rattle.head_current.specs.declared.DeltaReport.{DeltaReport}
-use Rattle.std.specs.Prelude.{◌+◌, ◌≤◌, false, List, [], ◌∷◌, ◌≡◌, Option, None, Some, ◌&&◌}
+use Rattle.std.specs.Prelude.{ℕ, ◌+◌, ◌≤◌, false, List, [], ◌∷◌, ◌≡◌, Option, None, Some, ◌&&◌}
 use Rattle.head_values.specs.Anchors.{holds}
 use Rattle.head_values.specs.Lists.{is_linked, is_decoded}
 use Rattle.head_attempt.specs.Attempts.{minted}
@@ -65,6 +65,10 @@ abbrev pub WhenMade : Option DeltaReport → (CarryOutcome → Type 0) → Type 
 WhenMade None P = Unit {0}
 WhenMade (Some r) P = P r.outcome
 
+-- the number under which it settled is at most n
+abbrev pub NumberAtMost : ℕ → Generation → Type 0
+NumberAtMost n g = g.seq.0 ≤ n
+
 abbrev pub OpenOrAbandoned : HeadCompletion → Type 0
 OpenOrAbandoned HeadCompletion.Open = Unit {0}
 OpenOrAbandoned HeadCompletion.Settled = ⊥
@@ -126,6 +130,9 @@ pub record Ordered (l : HeadLifecycle) : Type 0 where
   -- I10: preparing or abandoned: epoch at least 1
   pub preparing_epoch : WhenPreparing l.current (λ u. 1 ≤ l.claim_epoch.0)
   pub abandoned_epoch : WhenUnclaimed l.current (λ u. u.attempt.end ≡ HeadCompletion.Abandoned → 1 ≤ l.claim_epoch.0)
+  -- I11: the numbers under which installed and previous settled are at most seq, which is delivered
+  pub installed_number : WhenGeneration l.installed (NumberAtMost l.seq.0)
+  pub previous_number : WhenGeneration l.previous (NumberAtMost l.seq.0)
 
 -- I7: parked: the head is preparing
 abbrev pub Parks : CurrentHead → List WaiterSlot → Type 0

@@ -8,16 +8,17 @@ use mathlib.Core.Path.{◌≡◌, refl, ap, sym, ◌∙◌}
 use Rattle.head_driver.specs.Answers.{said, stats_values}
 use Rattle.head_ready.specs.Said.{outcome_said}
 use Rattle.script_back.proofs.Counters.{spaced_back, spaced_run, stats_back}
-use Rattle.script_back.proofs.Outcomes.{end_back, link_back, outcome_back, readiness_back, report_back, source_back}
+use Rattle.script_back.proofs.Outcomes.{end_back, link_back, outcome_back, readiness_back, report_back, source_back, settle_number_back}
 use Rattle.value_text.proofs.Back.{anchor_back, slot_back}
 use Rattle.head_values.specs.Ranges.{AnchorFits, OutcomeFits, SlotFits}
 use Rattle.hash.specs.Ranges.{Fits}
-use Rattle.head_ready.specs.Ranges.{ReadinessFits}
+use Rattle.head_ready.specs.Ranges.{ReadinessFits, SourceFits}
+use Rattle.script_answer.proofs.Views.{view_values}
 use Rattle.head_current.specs.Ranges.{ReportFits}
 use Rattle.head_count.specs.Ranges.{StatsFit}
 use Rattle.value_text.specs.Reads.{got, map, then}
 use Rattle.script_value.specs.Lines.{refusal_on}
-use Rattle.script_outcome.specs.Texts.{end_text, outcome_text, readiness_text, report_text, source_text}
+use Rattle.script_outcome.specs.Texts.{end_text, outcome_text, readiness_text, report_text, settle_number_text, source_text}
 use Rattle.script_value.specs.Texts.{spaced_text, stats_text}
 use Rattle.value_text.specs.Texts.{anchor_text, link_text, slot_text}
 use Rattle.value_text.proofs.Rows.{values_then}
@@ -35,6 +36,7 @@ use Rattle.head_count.specs.declared.HeadStats.{HeadStats}
 use Rattle.head_driver.specs.declared.Answer.{Answer}
 use Rattle.head_ready.specs.declared.HeadOutcome.{HeadOutcome}
 use Rattle.head_ready.specs.declared.HeadView.{HeadView}
+use Rattle.head_ready.specs.declared.Source.{Source}
 use Rattle.value_text.specs.declared.page.Page.{Page}
 use Rattle.answer_back.specs.Ranges.{AnswerFits, HeadOutcomeFits}
 use Rattle.answer_back.specs.Reads.{answer_named, read_answer, read_foreign, read_heads, read_refused, read_view, refused_by}
@@ -63,10 +65,24 @@ settled_back : (o : CarryOutcome) → OutcomeFits o → Reads (ascii "settled") 
 unfolding answer_named same_text word_text then map after after_byte
 settled_back o f = simp (outcome_back, f)
 
-view_back : (v : HeadView) → Fits v.handle → ReadinessFits v.readiness
-    → Reads (ascii "view") (ascii " " ++ (source_text v.source ++ (spaced_text v.handle ++ (ascii " " ++ (readiness_text v.readiness ++ ascii ")\n"))))) (Answer.View v)
+-- what follows a view's word
+abbrev view_rest : HeadView → List ℕ
+view_rest v =
+    ascii " " ++ (source_text v.source ++ (spaced_text v.handle
+    ++ (settle_number_text v.source ++ (ascii " " ++ (readiness_text v.readiness ++ ascii ")\n")))))
+
+-- a number or a space ends the handle
+settle_number_run : (s : Source) (t : List ℕ) → run t ≡ 0 → run (settle_number_text s ++ t) ≡ 0
+unfolding settle_number_text run in_word
+settle_number_run (Source.Installed n) t z = refl
+settle_number_run Source.Provisional t z = z
+settle_number_run (Source.Previous n) t z = refl
+settle_number_run Source.Spare t z = z
+
+view_back : (v : HeadView) → SourceFits v.source → Fits v.handle → ReadinessFits v.readiness
+    → Reads (ascii "view") (view_rest v) (Answer.View v)
 unfolding answer_named read_view same_text word_text then after after_byte run in_word
-view_back v f g = simp (source_back, spaced_back, spaced_run, readiness_back, g)
+view_back v s f g = simp (source_back, spaced_back, spaced_run, settle_number_run, settle_number_back, readiness_back, s, g)
 
 parked_back : Reads (ascii "parked") (ascii ")\n") Answer.Parked
 unfolding answer_named same_text word_text then after after_byte
@@ -144,8 +160,9 @@ said_back (Answer.Claimed e) f = named (ascii "claimed") (spaced_text e.0 ++ asc
 said_back Answer.Done f = named (ascii "done") (ascii ")\n") refl refl ∙ done_back
 said_back (Answer.Outcome o) f = outcome_line o f
 said_back (Answer.View v) f =
-    named (ascii "view") (ascii " " ++ (source_text v.source ++ (spaced_text v.handle ++ (ascii " " ++ (readiness_text v.readiness ++ ascii ")\n"))))) refl refl
-    ∙ view_back v f.0 f.1
+    ap (λ (t : List ℕ). read_answer (at (ascii "(" ++ (ascii "view" ++ t)))) (view_values v (ascii ")\n"))
+    ∙ named (ascii "view") (view_rest v) refl refl
+    ∙ view_back v f.0 f.1 f.2
 said_back Answer.Parked f = named (ascii "parked") (ascii ")\n") refl refl ∙ parked_back
 said_back (Answer.Completion end) f = named (ascii "completion") (ascii " " ++ (end_text end ++ ascii ")\n")) refl refl ∙ completion_back end
 said_back (Answer.Link link) f = named (ascii "link") (ascii " " ++ (link_text link ++ ascii ")\n")) refl refl ∙ link_line_back link

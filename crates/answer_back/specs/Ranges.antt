@@ -1,7 +1,7 @@
 -- Every number of an answer is one of 64 bits, and so is every word of its hashes.
 use Rattle.head_values.specs.Ranges.{AnchorFits, OutcomeFits, SlotFits}
 use Rattle.hash.specs.Ranges.{Fits}
-use Rattle.head_ready.specs.Ranges.{ReadinessFits}
+use Rattle.head_ready.specs.Ranges.{ReadinessFits, SourceFits}
 use Rattle.head_current.specs.Ranges.{ReportFits}
 use Rattle.head_count.specs.Ranges.{StatsFit}
 use Rattle.head_driver.specs.declared.Answer.{Answer}
@@ -19,7 +19,7 @@ AnswerFits (Answer.Ticket n) = Fits n.0
 AnswerFits (Answer.Claimed e) = Fits e.0
 AnswerFits Answer.Done = Unit {0}
 AnswerFits (Answer.Outcome o) = HeadOutcomeFits o
-AnswerFits (Answer.View v) = Fits v.handle × ReadinessFits v.readiness
+AnswerFits (Answer.View v) = SourceFits v.source × Fits v.handle × ReadinessFits v.readiness
 AnswerFits Answer.Parked = Unit {0}
 AnswerFits (Answer.Completion end) = Unit {0}
 AnswerFits (Answer.Link link) = Unit {0}

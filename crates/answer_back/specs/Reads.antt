@@ -3,7 +3,7 @@ use Rattle.std.specs.Prelude.{ℕ, List, eqb, cond}
 use Rattle.head_values.specs.Words.{Word}
 use Rattle.head_count.specs.Counters.{epoch_of, seq_of}
 use Rattle.script_back.specs.Counters.{read_stats}
-use Rattle.script_back.specs.Outcomes.{read_end, read_link, read_outcome, read_readiness, read_report, read_source}
+use Rattle.script_back.specs.Outcomes.{read_end, read_link, read_outcome, read_readiness, read_report, read_settle_number, read_source}
 use Rattle.value_text.specs.Reads.{got, map, read_anchor, read_slot, spaced_number, then}
 use Rattle.value_text.specs.Words.{word_text}
 use Rattle.text.specs.Ascii.{ascii}
@@ -21,8 +21,9 @@ unfoldable pub read_view : Rest → Took Answer
 read_view r =
     let source = read_source (after (ascii " ") r) in
     let handle = spaced_number source.next in
-    let readiness = read_readiness (after (ascii " ") handle.next) in
-    got (Answer.View (record { source = source.value; handle = handle.value; readiness = readiness.value })) readiness.next
+    let under = read_settle_number source.value handle.next in
+    let readiness = read_readiness (after (ascii " ") under.next) in
+    got (Answer.View (record { source = under.value; handle = handle.value; readiness = readiness.value })) readiness.next
 
 unfoldable pub read_heads : Rest → Took Answer
 read_heads r =

@@ -81,7 +81,8 @@ life = tt
 
 -- the calls
 unfoldable calls : Unit {0}
-unfolding ReadySaid.readiness_value ReadySaid.source_value EndSaid.end_value ReportSaid.report_value ReadySaid.outcome_said Said.stats_values Said.said Moved.woken_waiters Moved.moved New.new
+unfolding ReadySaid.readiness_value ReadySaid.source_value ReadySaid.settled_under
+    EndSaid.end_value ReportSaid.report_value ReadySaid.outcome_said Said.stats_values Said.said Moved.woken_waiters Moved.moved New.new
     DriverParts.with_life Deliver.deliver Claim.claim_answer Claim.claim Release.release Apply.apply_settled Apply.apply_planned Apply.apply Snapshot.viewed
     Snapshot.snapshot WaiterParts.waiter_at WaiterParts.put Waits.readiness_by_wait Waits.shown_by_wait Waits.view_frees Waits.waits_anew Waits.abandoned_view
     Waits.wait_as Waits.wait Waits.resume_as Waits.resume Asks.completion Asks.link Asks.last_report Asks.stats Asks.heads Steps.step
@@ -108,7 +109,8 @@ lines = tt
 unfoldable answers : Unit {0}
 unfolding ValueTexts.block_hash_text ValueTexts.anchor_text ValueTexts.slot_text CounterTexts.spaced_text CounterTexts.four_text CounterTexts.stats_text ValueForms.hash_text
     ValueForms.value_text ValueForms.values_on WordTexts.word_text ValueTexts.link_text ValueTexts.fault_text ValueTexts.skip_text OutcomeTexts.cold_text
-    OutcomeTexts.outcome_text OutcomeTexts.report_text OutcomeTexts.reason_text OutcomeTexts.readiness_text OutcomeTexts.source_text OutcomeTexts.end_text
+    OutcomeTexts.outcome_text OutcomeTexts.report_text OutcomeTexts.reason_text
+    OutcomeTexts.readiness_text OutcomeTexts.source_text OutcomeTexts.settle_number_text OutcomeTexts.end_text
     AnswerTexts.refusal_on AnswerTexts.said_text AnswerTexts.answer_text AnswerLines.answer_line
 answers = tt
 

@@ -1,4 +1,4 @@
--- Document 01, "Edges": E1 to E12. Each is a run from a new driver; beside each line stands what it prints.
+-- Document 01, "Edges": E1 to E12, in the writing of document 02, Job 1. Each is a run from a new driver; beside each line stands what it prints.
 use Rattle.std.specs.Prelude.{ℕ, List, [], ◌∷◌, ◌++◌}
 use Rattle.text.specs.Ascii.{ascii}
 use Rattle.edges.specs.Runs.{Line}
@@ -73,7 +73,7 @@ table =
     ∷ (ascii "(release 1 1)" prints ascii "(done)\n")
     ∷ (ascii "(resume 0 53)" prints ascii "(view provisional 50 abandoned)\n")
     ∷ (ascii "(apply (7 none) 1 (7 none) no-hash 60 0 90)" prints ascii "(settled (cold no-parent no-hash))\n")
-    ∷ (ascii "(sheet)" prints ascii "(count 1 0 0 1 0 0 0 2 2)\n(current settled (7 none) " ++ Z ++ ascii " ((cold no-parent no-hash) 90))\n(superseded none)\n(installed (7 none) 60 (cold no-parent no-hash))\n(previous none)\n")
+    ∷ (ascii "(sheet)" prints ascii "(count 1 0 0 1 0 0 0 2 2)\n(current settled (7 none) " ++ Z ++ ascii " ((cold no-parent no-hash) 90))\n(superseded none)\n(installed (7 none) 60 1 (cold no-parent no-hash))\n(previous none)\n")
     ∷ [])
     -- E12 abandoned, then a carried retry, then resume: spare, `abandoned`, ready-views plus 1
     ∷ ((ascii "(deliver (9 " ++ Z ++ ascii ") " ++ Y ++ ascii " 50)" prints ascii "(ticket 1)\n")

@@ -17,7 +17,7 @@ module _ (d : Driver) (held : HeadDelivery) (skip : BalSkip) (handle carried rep
   pub settles : (prepared : Bool) (refused : Reply) (life l : HeadLifecycle) (plan : ApplyPlan) (outcome : CarryOutcome) (reply : Reply)
       → prepared ≡ true → life ≡ l → plan ≡ ApplyPlan.Admitted held
       → outcome ≡ apply_prepared (slot_anchor life.installed) held.anchor held.parent_hash skip carried
-      → reply ≡ apply_settled d life held.anchor outcome handle report
+      → reply ≡ apply_settled d life held outcome handle report
       → reply ≡ cond (not prepared) refused (apply_planned d l plan skip handle carried report)
   unfolding apply_planned
   settles prepared refused life l plan outcome reply t e p o r = r ∙ rw (t, p, o, e) refl

@@ -5,10 +5,10 @@ use Rattle.head_values.specs.Lists.{apply_prepared, as_prepared}
 use Rattle.head_values.specs.declared.BalSkip.{BalSkip}
 use Rattle.head_values.specs.declared.CarryOutcome.{CarryOutcome}
 use Rattle.head_values.specs.declared.PreparedBal.{PreparedBal}
-use Rattle.head_values.specs.declared.ReadAnchor.{ReadAnchor}
 use Rattle.head_attempt.specs.declared.HeadCompletion.{HeadCompletion}
 use Rattle.head_ready.specs.Generations.{slot_anchor}
 use Rattle.head_ready.specs.declared.HeadOutcome.{HeadOutcome}
+use Rattle.head_current.specs.declared.HeadDelivery.{HeadDelivery}
 use Rattle.head_current.specs.declared.HeadTicket.{HeadTicket}
 use Rattle.head_life.specs.Apply.{plan_apply, record_settle}
 use Rattle.head_life.specs.declared.ApplyPlan.{ApplyPlan}
@@ -20,15 +20,15 @@ use Rattle.head_driver.specs.declared.Driver.{Driver}
 use Rattle.head_driver.specs.declared.Reply.{Reply}
 
 -- the head settles with that outcome, and so does its preparation, if it has one
-unfoldable pub apply_settled : Driver → HeadLifecycle → ReadAnchor → CarryOutcome → ℕ → ℕ → Reply
-apply_settled d l a o handle report =
-    reply_of (moved d (record_settle l a o handle report) HeadCompletion.Settled) (Answer.Outcome (HeadOutcome.Settled o))
+unfoldable pub apply_settled : Driver → HeadLifecycle → HeadDelivery → CarryOutcome → ℕ → ℕ → Reply
+apply_settled d l held o handle report =
+    reply_of (moved d (record_settle l held o handle report) HeadCompletion.Settled) (Answer.Outcome (HeadOutcome.Settled o))
 
 -- by the plan: 11, 12 or 13, or the outcome of the link test and the skip
 unfoldable pub apply_planned : Driver → HeadLifecycle → ApplyPlan → BalSkip → ℕ → ℕ → ℕ → Reply
 apply_planned d l (ApplyPlan.Refused o) skip handle carried report = reply_of (with_life d l) (Answer.Outcome o)
 apply_planned d l (ApplyPlan.Admitted held) skip handle carried report =
-    apply_settled d l held.anchor (apply_prepared (slot_anchor l.installed) held.anchor held.parent_hash skip carried) handle report
+    apply_settled d l held (apply_prepared (slot_anchor l.installed) held.anchor held.parent_hash skip carried) handle report
 
 -- "Apply tests 2, 11, 12, 13"; where none applies the head settles
 unfoldable pub apply : Driver → HeadTicket → PreparedBal → ℕ → ℕ → ℕ → Reply

@@ -9,7 +9,7 @@ ghost use Rattle.head_driver.specs.Answers.{Replies};
 
 use hash::Hash;
 use head_attempt::HeadCompletion;
-use head_current::{HeadTicket, PrepareClaim};
+use head_current::{HeadDelivery, HeadTicket, PrepareClaim};
 use head_driver::head_lifecycle::answered;
 use head_driver::{Answer, Driver, Reply};
 use head_life::{ApplyPlan, HeadLifecycle};
@@ -56,14 +56,14 @@ pub fn release(d: Driver, owner: PrepareClaim) -> Reply
 pub(crate) fn apply_settled(
     d: Driver,
     life: HeadLifecycle,
-    anchor: ReadAnchor,
+    held: HeadDelivery,
     outcome: CarryOutcome,
     handle: u64,
     report: u64,
 ) -> Reply
-    ensures { result ≡ apply_settled d life anchor outcome handle report }
+    ensures { result ≡ apply_settled d life held outcome handle report }
 {
-    let next = life.record_settle(anchor, outcome, handle, report);
+    let next = life.record_settle(held, outcome, handle, report);
     answered(
         d.moved(next, HeadCompletion::Settled),
         Answer::Outcome(HeadOutcome::Settled(outcome)),
@@ -100,7 +100,7 @@ pub fn apply(
                 list.skip,
                 carried,
             );
-            apply_settled(d, life, held.anchor, outcome, handle, report)
+            apply_settled(d, life, held, outcome, handle, report)
         }
     }
 }

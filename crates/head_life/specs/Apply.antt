@@ -1,4 +1,4 @@
--- Document 01, "Lifecycle": what an `apply` does; "Turned away by the state": "Apply tests 2, 11, 12, 13." (2,
+-- Document 01, "Lifecycle", and document 02, Job 1: what an `apply` does; "Turned away by the state": "Apply tests 2, 11, 12, 13." (2,
 -- which the list alone decides, stands in `head_calls/specs/Apply`.) The Rust: `HeadLifecycle::plan_apply`,
 -- `record_settle` and `settle_current`, and `settled_readiness`, of head_lifecycle.rs.
 use Rattle.std.specs.Prelude.{ℕ, Option, None, Some, cond, not}
@@ -40,7 +40,7 @@ plan_held (Some held) l ticket list =
 unfoldable pub plan_apply : HeadLifecycle → HeadTicket → ReadAnchor → HeadLifecycle × ApplyPlan
 plan_apply l ticket list = plan_held (delivery l.current) l ticket list
 
--- "Carried makes the installed generation the previous one, readiness included; cold empties previous."
+-- "Carried makes the installed generation the previous one, readiness included; cold empties previous." Job 1: its number too.
 unfoldable pub previous_after : Option Generation → CarryOutcome → Option Generation
 previous_after installed (CarryOutcome.Carried c) = installed
 previous_after installed (CarryOutcome.Cold link skip) = None
@@ -54,17 +54,17 @@ settled_readiness (CarryOutcome.Cold link skip) = HeadReadiness.Cold (HeadCold.S
 unfoldable pub settling_epoch : HeadLifecycle → Epoch
 settling_epoch l = cond (published_abandonment l.current) (next_epoch l.claim_epoch) l.claim_epoch
 
--- the lifecycle after an apply that nothing turns away: `HeadLifecycle::record_settle` and `settle_current`
-unfoldable pub record_settle : HeadLifecycle → ReadAnchor → CarryOutcome → ℕ → ℕ → HeadLifecycle
-record_settle l a o handle report = record {
+-- the lifecycle after an apply to that head which nothing turns away: `HeadLifecycle::record_settle` and `settle_current`
+unfoldable pub record_settle : HeadLifecycle → HeadDelivery → CarryOutcome → ℕ → ℕ → HeadLifecycle
+record_settle l held o handle report = record {
   -- "Settled plus 1."
   stats = raise Counter.Settled l.stats;
   -- "The head becomes settled, keeps this outcome and REPORT, and its open attempt ends settled."
   current = settled_head l.current (settling_epoch l) (record { outcome = o; number = report });
   -- "Carried makes the installed generation the previous one ..; cold empties previous."
   previous = previous_after l.installed o;
-  -- "The new one is installed, ready if carried."
-  installed = Some (record { anchor = a; handle = handle; readiness = settled_readiness o });
+  -- "The new one is installed, ready if carried." Job 1: it keeps "the delivery number under which" it settled
+  installed = Some (record { anchor = held.anchor; handle = handle; seq = held.seq; readiness = settled_readiness o });
   -- "An unclaimed head whose attempt was abandoned gets a new attempt, ..: epoch plus 1."
   claim_epoch = settling_epoch l;
   -- and the rest as it was

@@ -57,7 +57,7 @@ deliver_life l a p cold =
             (raise_if (is_unsettled l.current) Counter.Superseded l.stats));
         -- "If the anchor is installed, the head is settled ..; else unclaimed"
         current = new_head (holds (slot_anchor l.installed) a) (record { anchor = a; parent_hash = p; seq = next_seq l.seq }) cold;
-        -- "installed readiness kept"
+        -- "installed readiness kept"; Job 1: "A redelivery of the installed block keeps the old number."
         installed = l.installed;
         -- and the rest as it was
         previous = l.previous;

@@ -8,7 +8,7 @@ ghost use Rattle.head_life.specs.Deliver.{deliver_life, new_head};
 ghost use Rattle.head_life.specs.Release.{release_life};
 ghost use Rattle.head_life.specs.Said.{Plans, Starts};
 ghost use Rattle.head_life.specs.State.{counted, view_counted};
-ghost use Rattle.head_life.specs.Views.{current_view, generation_view, spare_view, view};
+ghost use Rattle.head_life.specs.Views.{current_view, spare_view, view};
 ghost use Rattle.head_ready.specs.Said.{view_said};
 
 use crate::{ApplyPlan, HeadLifecycle};
@@ -80,26 +80,6 @@ pub(crate) fn spare_view(superseded: Option<ReadAnchor>, anchor: ReadAnchor, spa
         source: Source::Spare,
         handle: spare,
         readiness: HeadReadiness::Cold(reason),
-    }
-}
-
-// The generation's view if it is at that anchor, else `other`.
-#[tactic(auto, unfolding(crate::specs::Views::generation_view, head_values::specs::Anchors::same_anchor, hash::specs::Hashes::same_hash))]
-pub(crate) fn generation_view(
-    source: Source,
-    slot: Option<Generation>,
-    anchor: ReadAnchor,
-    other: HeadView,
-) -> HeadView
-    ensures { result ≡ generation_view source slot anchor other }
-{
-    match slot {
-        Some(g) if g.anchor == anchor => HeadView {
-            source,
-            handle: g.handle,
-            readiness: g.readiness,
-        },
-        _ => other,
     }
 }
 
@@ -221,16 +201,16 @@ impl HeadLifecycle {
         (self, ApplyPlan::Admitted(held))
     }
 
-    // The Rust's `record_settle` and `settle_current`: an admitted apply at that anchor, with the host's numbers for its hub and its report.
+    // The Rust's `record_settle` and `settle_current`: an admitted apply to the head of that delivery, with the host's numbers for its hub and its report.
     #[tactic(auto, unfolding(crate::specs::Apply::record_settle, crate::specs::Apply::settling_epoch))]
     pub fn record_settle(
         self,
-        anchor: ReadAnchor,
+        held: HeadDelivery,
         outcome: CarryOutcome,
         handle: u64,
         report: u64,
     ) -> HeadLifecycle
-        ensures { result ≡ record_settle self anchor outcome handle report }
+        ensures { result ≡ record_settle self held outcome handle report }
     {
         let claim_epoch = if self.current.published_abandonment() {
             self.claim_epoch.next()
@@ -245,8 +225,9 @@ impl HeadLifecycle {
         HeadLifecycle {
             current: self.current.settled(claim_epoch, made),
             installed: Some(Generation {
-                anchor,
+                anchor: held.anchor,
                 handle,
+                seq: held.seq,
                 readiness,
             }),
             previous: previous_after(self.installed, outcome),
@@ -258,14 +239,20 @@ impl HeadLifecycle {
 
     // The view at an anchor, first that fits: what the Rust's `snapshot` asks the cache for, then its `lookup`. `spare` is the handle of a cold
     // generation that the host made for this call.
-    #[tactic(auto, unfolding(crate::specs::Views::view))]
+    #[tactic(auto, unfolding(crate::specs::Views::view, crate::specs::Views::generation_view, head_values::specs::Anchors::same_anchor, hash::specs::Hashes::same_hash))]
     pub fn view_at(self, anchor: ReadAnchor, spare: u64) -> HeadView
         ensures { view_said result ≡ view_said (view self anchor spare) }
     {
         let fresh = spare_view(self.superseded, anchor, spare);
-        let older = generation_view(Source::Previous, self.previous, anchor, fresh);
+        let older = match self.previous {
+            Some(g) if g.anchor == anchor => g.view(Source::Previous(g.seq)),
+            _ => fresh,
+        };
         let newer = current_view(self.current, anchor, older);
-        generation_view(Source::Installed, self.installed, anchor, newer)
+        match self.installed {
+            Some(g) if g.anchor == anchor => g.view(Source::Installed(g.seq)),
+            _ => newer,
+        }
     }
 
     // The count of a view: it lends the counters. Each view that is answered is counted this way.

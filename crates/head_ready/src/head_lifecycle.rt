@@ -1,8 +1,20 @@
-// From head_lifecycle.rs: whether a readiness is ready.
+// From head_lifecycle.rs: a generation's view, which the Rust's `snapshot` builds in place, and whether a readiness is ready.
 ghost use Rattle.std.specs.Prelude.{◌≡◌};
-ghost use Rattle.head_ready.specs.Generations.{is_ready};
+ghost use Rattle.head_ready.specs.Generations.{is_ready, view_of};
 
-use crate::HeadReadiness;
+use crate::{Generation, HeadReadiness, HeadView, Source};
+
+impl Generation {
+    pub fn view(self, source: Source) -> HeadView
+        ensures { result ≡ view_of source self.handle self.readiness }
+    {
+        HeadView {
+            source,
+            handle: self.handle,
+            readiness: self.readiness,
+        }
+    }
+}
 
 impl HeadReadiness {
     #[tactic(auto, unfolding(crate::specs::Generations::is_ready))]

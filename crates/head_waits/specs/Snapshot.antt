@@ -1,5 +1,6 @@
 -- Document 01, "Lifecycle": "`snapshot`, first that fits: .." (`head_life/specs/Views`). "One of ready-views and cold-views rises by that
--- readiness." "Lines": "`(snapshot A H)` .. `(view SOURCE H READINESS)`". The Rust: `BalHeadDriver::snapshot`, of head_lifecycle.rs.
+-- readiness." "Lines": "`(snapshot A H)` .. `(view SOURCE H READINESS)`", by document 02, Job 1, with the number after H from installed and
+-- previous. The Rust: `BalHeadDriver::snapshot`, of head_lifecycle.rs.
 use Rattle.std.specs.Prelude.{ℕ}
 use Rattle.head_values.specs.declared.ReadAnchor.{ReadAnchor}
 use Rattle.head_ready.specs.Generations.{is_ready}

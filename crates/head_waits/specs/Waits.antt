@@ -6,13 +6,13 @@
 use Rattle.std.specs.Prelude.{ℕ, ltb, cond}
 use Rattle.head_values.specs.declared.ReadAnchor.{ReadAnchor}
 use Rattle.head_attempt.specs.declared.Waiter.{Waiter}
-use Rattle.head_ready.specs.Generations.{is_ready}
+use Rattle.head_ready.specs.Generations.{is_ready, view_of}
 use Rattle.head_ready.specs.declared.HeadCold.{HeadCold}
 use Rattle.head_ready.specs.declared.HeadReadiness.{HeadReadiness}
 use Rattle.head_ready.specs.declared.HeadView.{HeadView}
 use Rattle.head_ready.specs.declared.Source.{Source}
 use Rattle.head_current.specs.Heads.{preparing_at}
-use Rattle.head_life.specs.Views.{view, view_of}
+use Rattle.head_life.specs.Views.{view}
 use Rattle.head_driver.specs.Parts.{reply_of}
 use Rattle.head_driver.specs.declared.Answer.{Answer}
 use Rattle.head_driver.specs.declared.Driver.{Driver}
@@ -44,7 +44,8 @@ waits_anew d n a spare =
     (reply_of (put d n Waiter.Parked) Answer.Parked)
     (view_frees d n (view d.life a spare) (shown_by_wait (view d.life a spare)))
 
--- "the snapshot with reason `abandoned`; if that snapshot was ready, the spare handle is given with source `spare`": `abandoned_view`
+-- "the snapshot with reason `abandoned`; if that snapshot was ready, the spare handle is given with source `spare`": `abandoned_view`.
+-- Where the source stays, so does its settle number (document 02, Job 1); `spare` has none.
 unfoldable pub abandoned_view : HeadView → ℕ → HeadView
 abandoned_view v spare =
     cond (is_ready v.readiness)

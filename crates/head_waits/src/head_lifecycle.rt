@@ -43,7 +43,7 @@ pub(crate) fn shown_by_wait(view: HeadView) -> HeadView
     }
 }
 
-// The answer of a wait that an abandonment ended: never ready, and never a hub that a later retry settled.
+// The answer of a wait that an abandonment ended: never ready, and never a hub that a later retry settled ready.
 #[tactic(auto, unfolding(crate::specs::Waits::abandoned_view))]
 pub(crate) fn abandoned_view(view: HeadView, spare: u64) -> HeadView
     ensures { result ≡ abandoned_view view spare }

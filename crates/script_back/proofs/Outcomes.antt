@@ -1,4 +1,4 @@
--- Links, outcomes, reports, readiness, sources and ends are read back.
+-- Links, outcomes, reports, readiness, sources with their settle numbers, and ends are read back.
 use Rattle.std.specs.Prelude.{Option, None, Some}
 use Rattle.head_current.specs.declared.DeltaReport.{DeltaReport}
 use Prim.Native.Nat.{ℕ}
@@ -7,10 +7,11 @@ use mathlib.Core.List.{List, ◌++◌, append_assoc}
 use mathlib.Core.Path.{◌≡◌, refl, ◌∙◌}
 use Rattle.head_values.specs.Values.{fault_value, link_value, outcome_value}
 use Rattle.head_values.specs.Words.{Word}
+use Rattle.head_count.specs.Counters.{seq_of}
 use Rattle.head_attempt.specs.Said.{end_value}
 use Rattle.head_ready.specs.Said.{readiness_value, source_value}
 use Rattle.head_current.specs.Said.{report_value}
-use Rattle.script_outcome.specs.Texts.{cold_text, end_text, outcome_text, readiness_text, report_text, source_text}
+use Rattle.script_outcome.specs.Texts.{cold_text, end_text, outcome_text, readiness_text, report_text, settle_number_text, source_text}
 use Rattle.value_text.proofs.Back.{skip_back}
 use Rattle.value_text.proofs.Keywords.{open_miss, word_hit, word_miss}
 use Rattle.value_text.specs.Reads.{got, map, then}
@@ -30,13 +31,20 @@ use Rattle.head_attempt.specs.declared.HeadCompletion.{HeadCompletion}
 use Rattle.head_ready.specs.declared.HeadCold.{HeadCold}
 use Rattle.head_ready.specs.declared.HeadReadiness.{HeadReadiness}
 use Rattle.head_ready.specs.declared.Source.{Source}
-use Rattle.script_back.specs.Outcomes.{read_cold, read_end, read_fault, read_faulty, read_link, read_made, read_outcome, read_readiness, read_report, read_source}
+use Rattle.script_back.specs.Outcomes.{read_cold, read_end, read_fault, read_faulty, read_link, read_made, read_outcome, read_readiness, read_report, read_settle_number, read_source}
 use Rattle.hash.specs.Ranges.{Fits}
 use Rattle.head_values.specs.Ranges.{OutcomeFits, SkipFits}
-use Rattle.head_ready.specs.Ranges.{ReadinessFits}
+use Rattle.head_ready.specs.Ranges.{ReadinessFits, SourceFits}
 use Rattle.head_current.specs.Ranges.{ReportFits}
 use Rattle.script_back.proofs.Counters.{spaced_back, spaced_run}
 use Rattle.head_current.specs.Parts.{report_of}
+
+-- a source as its word tells it
+abbrev pub unnumbered : Source → Source
+unnumbered (Source.Installed n) = Source.Installed (seq_of 0)
+unnumbered Source.Provisional = Source.Provisional
+unnumbered (Source.Previous n) = Source.Previous (seq_of 0)
+unnumbered Source.Spare = Source.Spare
 
 module _ (t : List ℕ) (z : run t ≡ 0) where
   -- ---- words
@@ -73,12 +81,23 @@ module _ (t : List ℕ) (z : run t ≡ 0) where
   fault_back Link.HashUnknown = word_miss _ _ t z (ascii "none") (ascii "hash-unknown") refl refl ∙ hash_unknown_back
   fault_back Link.HashMismatch = word_miss _ _ t z (ascii "none") (ascii "hash-mismatch") refl refl ∙ hash_mismatch_back
 
-  pub source_back : (source : Source) → read_source (at (source_text source ++ t)) ≡ got source (at t)
+  pub source_back : (source : Source) → read_source (at (source_text source ++ t)) ≡ got (unnumbered source) (at t)
   unfolding read_source source_text source_value value_text word_text same_text run in_word
-  source_back Source.Installed = word_hit _ _ t z (ascii "installed") refl
+  source_back (Source.Installed n) = word_hit _ _ t z (ascii "installed") refl
   source_back Source.Provisional = word_miss _ _ t z (ascii "installed") (ascii "provisional") refl refl ∙ word_hit _ _ t z (ascii "provisional") refl
-  source_back Source.Previous = word_miss _ _ t z (ascii "installed") (ascii "previous") refl refl ∙ word_miss _ _ t z (ascii "provisional") (ascii "previous") refl refl ∙ word_hit _ _ t z (ascii "previous") refl
+  source_back (Source.Previous n) =
+      word_miss _ _ t z (ascii "installed") (ascii "previous") refl refl
+      ∙ word_miss _ _ t z (ascii "provisional") (ascii "previous") refl refl
+      ∙ word_hit _ _ t z (ascii "previous") refl
   source_back Source.Spare = word_miss _ _ t z (ascii "installed") (ascii "spare") refl refl ∙ word_miss _ _ t z (ascii "provisional") (ascii "spare") refl refl ∙ word_miss _ _ t z (ascii "previous") (ascii "spare") refl refl ∙ word_hit _ _ t z (ascii "spare") refl
+
+  pub settle_number_back : (source : Source) → SourceFits source
+      → read_settle_number (unnumbered source) (at (settle_number_text source ++ t)) ≡ got source (at t)
+  unfolding read_settle_number settle_number_text spaced_text map
+  settle_number_back (Source.Installed n) f = rw (spaced_back n.0 t f z) refl
+  settle_number_back Source.Provisional f = refl
+  settle_number_back (Source.Previous n) f = rw (spaced_back n.0 t f z) refl
+  settle_number_back Source.Spare f = refl
 
   pub end_back : (end : HeadCompletion) → read_end (at (end_text end ++ t)) ≡ got end (at t)
   unfolding read_end end_text end_value value_text word_text same_text run in_word

@@ -1,7 +1,8 @@
--- Reading links, outcomes, reports, readiness, sources and ends from the front of a text, with a failure that stays.
+-- Reading links, outcomes, reports, readiness, sources with their settle numbers, and ends from the front of a text, with a failure that stays.
 use Rattle.std.specs.Prelude.{Option, None, cond, Some}
 use Rattle.head_current.specs.declared.DeltaReport.{DeltaReport}
 use Rattle.head_values.specs.Words.{Word}
+use Rattle.head_count.specs.Counters.{seq_of}
 use Rattle.value_text.specs.Reads.{got, map, or_word, read_skip, spaced_number, then}
 use Rattle.value_text.specs.Words.{word_text}
 use Rattle.text.specs.Ascii.{ascii}
@@ -79,13 +80,21 @@ read_readiness r =
     (or_word (word_text Word.abandoned) (HeadReadiness.Cold HeadCold.Abandoned) r
     (map cold_readiness (read_cold r))))))
 
+-- the source of a word; the number of a generation's stands behind the handle, so it is 0 here
 unfoldable pub read_source : Rest → Took Source
 read_source r =
-    or_word (word_text Word.installed) Source.Installed r
+    or_word (word_text Word.installed) (Source.Installed (seq_of 0)) r
     (or_word (word_text Word.provisional) Source.Provisional r
-    (or_word (word_text Word.previous) Source.Previous r
+    (or_word (word_text Word.previous) (Source.Previous (seq_of 0)) r
     (or_word (word_text Word.spare) Source.Spare r
     (got Source.Spare stopped))))
+
+-- that source with the number that stands behind the handle, where it has one
+unfoldable pub read_settle_number : Source → Rest → Took Source
+read_settle_number (Source.Installed seq) r = map (λ n. Source.Installed (seq_of n)) (spaced_number r)
+read_settle_number Source.Provisional r = got Source.Provisional r
+read_settle_number (Source.Previous seq) r = map (λ n. Source.Previous (seq_of n)) (spaced_number r)
+read_settle_number Source.Spare r = got Source.Spare r
 
 unfoldable pub read_end : Rest → Took HeadCompletion
 read_end r =

@@ -1,5 +1,5 @@
 // Plays scripts parted by `%` from its standard input, each from a new driver and byte by byte, so that every line comes in parts, and writes a line `%`
-// after each. Then `(sheet)` into buffers of 4,095 and of 4,096 bytes. The expected output is written from document 01.
+// after each. Then `(sheet)` into buffers of 4,095 and of 4,096 bytes. The expected output is written from document 01 and from document 02's jobs.
 // Knows nothing of how answers come about. The part of a line that is held goes beside its count, as `feed` asks for it.
 #![tactic(auto)]
 

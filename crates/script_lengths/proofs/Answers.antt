@@ -8,9 +8,10 @@ use mathlib.Core.Path.{◌≡◌, refl}
 use lib.ListN.{length, length-append}
 use Rattle.head_driver.specs.Answers.{said}
 use Rattle.head_ready.specs.Said.{outcome_said}
+use Rattle.script_answer.proofs.Views.{view_form}
 use Rattle.script_answer.specs.Answers.{answer_line}
 use Rattle.script_value.specs.Lines.{answer_text, refusal_on, said_text}
-use Rattle.script_outcome.specs.Texts.{end_text, outcome_text, readiness_text, report_text, source_text}
+use Rattle.script_outcome.specs.Texts.{end_text, outcome_text, report_text}
 use Rattle.value_text.proofs.Rows.{values_then}
 use Rattle.script_value.specs.Texts.{spaced_text, stats_text}
 use Rattle.value_text.specs.Texts.{anchor_text, link_text, slot_text}
@@ -29,17 +30,13 @@ use Rattle.head_ready.specs.declared.HeadView.{HeadView}
 use Rattle.value_text.specs.declared.page.Page.{Page}
 use Rattle.script_lengths.specs.Statements.{AnswerLength, AnswerRoom}
 use Rattle.value_text.proofs.Lengths.{anchor_most, slot_most}
-use Rattle.script_lengths.proofs.Values.{end_most, link_most, outcome_most, readiness_most, report_most, source_most, spaced_most, stats_most}
+use Rattle.script_lengths.proofs.Values.{end_most, link_most, outcome_most, readiness_most, report_most, source_most, spaced_most, stats_most, settle_number_most}
 
 -- an answer's text is at most 271 bytes
 abbrev Short : Answer → Type 0
 Short a = length (answer_text a) ≤ 271
 
 -- the texts, as they are put together
-
-view_form : (v : HeadView) → answer_text (Answer.View v) ≡ ascii "(view " ++ (source_text v.source ++ (spaced_text v.handle ++ (ascii " " ++ (readiness_text v.readiness ++ ascii ")"))))
-unfolding answer_text said_text said refusal_on values_on value_text word_text source_text spaced_text readiness_text
-view_form v = refl
 
 completion_form : (e : HeadCompletion) → answer_text (Answer.Completion e) ≡ ascii "(completion " ++ (end_text e ++ ascii ")")
 unfolding answer_text said_text said refusal_on values_on value_text word_text end_text
@@ -107,7 +104,9 @@ claimed_short : (n : ℕ) → Short (Answer.Claimed (record { 0 = n }))
 claimed_short n = rw (claimed_form n) (simp length-append (omega (arith, spaced_most n)))
 
 view_short : (v : HeadView) → Short (Answer.View v)
-view_short v = rw (view_form v) (simp length-append (omega (arith, source_most v.source, spaced_most v.handle, readiness_most v.readiness)))
+view_short v =
+    rw (view_form v) (simp length-append
+    (omega (arith, source_most v.source, spaced_most v.handle, settle_number_most v.source, readiness_most v.readiness)))
 
 completion_short : (e : HeadCompletion) → Short (Answer.Completion e)
 completion_short e = rw (completion_form e) (simp length-append (omega (arith, end_most e)))

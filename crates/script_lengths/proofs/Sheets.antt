@@ -51,12 +51,14 @@ current_most (CurrentHead.Unclaimed u) = simp length-append (omega (arith, unset
 current_most (CurrentHead.Preparing u) = simp length-append (omega (arith, unsettled_most u))
 current_most (CurrentHead.Settled s) = simp length-append (omega (arith, delivery_most s.delivery, report_most s.report))
 
-generation_most : (g : Option Generation) → length (generation_text g) ≤ 161
+generation_most : (g : Option Generation) → length (generation_text g) ≤ 182
 unfolding generation_text
 generation_most None = omega arith
-generation_most (Some g) = simp length-append (omega (arith, anchor_most Page.Sheet g.anchor, spaced_most g.handle, readiness_most g.readiness))
+generation_most (Some g) =
+    simp length-append
+    (omega (arith, anchor_most Page.Sheet g.anchor, spaced_most g.handle, spaced_most g.seq.0, readiness_most g.readiness))
 
-life_most : (l : HeadLifecycle) → length (life_lines l) ≤ 892
+life_most : (l : HeadLifecycle) → length (life_lines l) ≤ 934
 unfolding life_lines superseded_line installed_line previous_line
 life_most l = simp length-append (omega (arith, count_most l.stats l.claim_epoch, current_most l.current, slot_most Page.Sheet l.superseded, generation_most l.installed, generation_most l.previous))
 

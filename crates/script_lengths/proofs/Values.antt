@@ -11,7 +11,7 @@ use Rattle.head_attempt.specs.Said.{end_value}
 use Rattle.head_ready.specs.Said.{readiness_value, source_value}
 use Rattle.head_current.specs.Said.{report_value}
 use Rattle.value_text.proofs.Lengths.{skip_most}
-use Rattle.script_outcome.specs.Texts.{cold_text, end_text, outcome_text, readiness_text, report_text, source_text}
+use Rattle.script_outcome.specs.Texts.{cold_text, end_text, outcome_text, readiness_text, report_text, settle_number_text, source_text}
 use Rattle.value_text.specs.Texts.{skip_text, link_text, fault_text}
 use Rattle.script_value.proofs.Halves.{stats_split}
 use Rattle.script_value.specs.Texts.{four_text, spaced_text, stats_text}
@@ -46,7 +46,7 @@ stats_most s =
     (simp length-append
     (omega (arith, four_most s.delivered s.repeated s.superseded s.settled, four_most s.already_current s.discarded s.ready_views s.cold_views)))
 
--- ---- links, outcomes, reports, readiness, sources and ends
+-- ---- links, outcomes, reports, readiness, sources, settle numbers and ends
 
 pub link_most : (k : Link) → length (link_text k) ≤ 15
 unfolding link_text link_value value_text word_text
@@ -99,10 +99,17 @@ readiness_most (HeadReadiness.Cold (HeadCold.Settled k x)) = cold_most k x
 
 pub source_most : (s : Source) → length (source_text s) ≤ 11
 unfolding source_text source_value value_text word_text
-source_most Source.Installed = omega arith
+source_most (Source.Installed n) = omega arith
 source_most Source.Provisional = omega arith
-source_most Source.Previous = omega arith
+source_most (Source.Previous n) = omega arith
 source_most Source.Spare = omega arith
+
+pub settle_number_most : (s : Source) → length (settle_number_text s) ≤ 21
+unfolding settle_number_text
+settle_number_most (Source.Installed n) = omega (arith, length-decimal n.0)
+settle_number_most Source.Provisional = omega arith
+settle_number_most (Source.Previous n) = omega (arith, length-decimal n.0)
+settle_number_most Source.Spare = omega arith
 
 pub end_most : (e : HeadCompletion) → length (end_text e) ≤ 10
 unfolding end_text end_value value_text word_text

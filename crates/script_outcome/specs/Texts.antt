@@ -1,11 +1,14 @@
--- A name for the text of each value that holds no hash: it is the same on a line and on a sheet.
+-- A name for the text of each value that holds no hash, and of the settle number that a source has: it is the same on a line
+-- and on a sheet.
 use Rattle.head_current.specs.declared.DeltaReport.{DeltaReport}
-use Rattle.std.specs.Prelude.{ℕ, List, Option}
+use Rattle.std.specs.Prelude.{ℕ, List, [], ◌++◌, Option}
 use Rattle.head_values.specs.Values.{Value, fault_value, outcome_value, skip_value}
 use Rattle.head_values.specs.Words.{Word}
 use Rattle.head_attempt.specs.Said.{end_value}
 use Rattle.head_ready.specs.Said.{readiness_value, source_value}
 use Rattle.head_current.specs.Said.{report_value}
+use Rattle.text.specs.Ascii.{ascii}
+use Rattle.text.specs.Decimals.{decimal}
 use Rattle.value_text.specs.Values.{value_text}
 use Rattle.head_values.specs.declared.BalSkip.{BalSkip}
 use Rattle.head_values.specs.declared.CarryOutcome.{CarryOutcome}
@@ -33,6 +36,13 @@ readiness_text r = value_text Page.Line (readiness_value r)
 
 unfoldable pub source_text : Source → List ℕ
 source_text s = value_text Page.Line (source_value s)
+
+-- the settle number of a generation's source, after a space; another source has none
+unfoldable pub settle_number_text : Source → List ℕ
+settle_number_text (Source.Installed seq) = ascii " " ++ decimal seq.0
+settle_number_text Source.Provisional = []
+settle_number_text (Source.Previous seq) = ascii " " ++ decimal seq.0
+settle_number_text Source.Spare = []
 
 unfoldable pub end_text : HeadCompletion → List ℕ
 end_text e = value_text Page.Line (end_value e)

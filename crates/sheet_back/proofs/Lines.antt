@@ -143,7 +143,9 @@ superseded_back s t f = simp (append_assoc, slot_back)
 
 -- ---- installed and previous
 
-held_form : (g : Generation) (t : List ℕ) → generation_text (Some g) ++ t ≡ anchor_text Page.Sheet g.anchor ++ (spaced_text g.handle ++ (ascii " " ++ (readiness_text g.readiness ++ t)))
+held_form : (g : Generation) (t : List ℕ)
+    → generation_text (Some g) ++ t
+    ≡ anchor_text Page.Sheet g.anchor ++ (spaced_text g.handle ++ (spaced_text g.seq.0 ++ (ascii " " ++ (readiness_text g.readiness ++ t))))
 unfolding generation_text
 held_form g t = simp append_assoc
 
@@ -152,8 +154,9 @@ unfolding read_held after after_byte run in_word
 held_back g t f z =
     let fa = f.anchor in
     let fh = f.handle in
+    let fn = f.seq in
     let fr = f.readiness in
-    rw (held_form g t) (simp (anchor_back, spaced_back, readiness_back))
+    rw (held_form g t) (simp (anchor_back, spaced_run, spaced_back, readiness_back))
 
 generation_back : (g : Option Generation) (t : List ℕ) → GenerationSlotFits g → run t ≡ 0 → read_generation (at (generation_text g ++ t)) ≡ got g (at t)
 unfolding read_generation generation_text word_text run in_word

@@ -86,13 +86,14 @@ read_superseded r = then (ascii ")\n") (read_slot Page.Sheet (after (ascii "(sup
 
 -- ---- installed and previous
 
--- `A H READINESS`
+-- `A H N READINESS`
 unfoldable pub read_held : Rest → Took (Option Generation)
 read_held r =
     let anchor = read_anchor Page.Sheet r in
     let handle = spaced_number anchor.next in
-    let readiness = read_readiness (after (ascii " ") handle.next) in
-    got (Some (record { anchor = anchor.value; handle = handle.value; readiness = readiness.value })) readiness.next
+    let seq = spaced_number handle.next in
+    let readiness = read_readiness (after (ascii " ") seq.next) in
+    got (Some (record { anchor = anchor.value; handle = handle.value; seq = seq_of seq.value; readiness = readiness.value })) readiness.next
 
 unfoldable pub read_generation : Rest → Took (Option Generation)
 read_generation r = or_word (word_text Word.none) None r (read_held r)

@@ -14,21 +14,22 @@ use text_put::TextWriter;
 use value_text::anchor::put_anchor;
 use value_text::page::Page;
 
-// Puts `A H READINESS`: the one place where what follows a generation's handle is written.
+// Puts `A H N READINESS`: the one place where what follows a generation's handle is written.
 pub(crate) fn put_held(out: &mut TextWriter<'_>, held: Generation)
-    requires { Room out.old 161 }
-    ensures { Puts out.old out.new 161 (generation_text (Some held)) }
+    requires { Room out.old 182 }
+    ensures { Puts out.old out.new 182 (generation_text (Some held)) }
 {
     put_anchor(out, Page::Sheet, held.anchor);
     put_spaced(out, held.handle);
+    put_spaced(out, held.seq.0);
     out.byte(b' ');
     put_readiness(out, held.readiness);
 }
 
 // Puts a generation, or `none`.
 pub(crate) fn put_generation(out: &mut TextWriter<'_>, slot: Option<Generation>)
-    requires { Room out.old 161 }
-    ensures { Puts out.old out.new 161 (generation_text slot) }
+    requires { Room out.old 182 }
+    ensures { Puts out.old out.new 182 (generation_text slot) }
 {
     match slot {
         None => out.text(b"none"),
@@ -38,8 +39,8 @@ pub(crate) fn put_generation(out: &mut TextWriter<'_>, slot: Option<Generation>)
 
 // Puts a line that begins with a bracket and the generation's name.
 pub(crate) fn put_line(out: &mut TextWriter<'_>, name: &[u8], slot: Option<Generation>)
-    requires { Room out.old (length name.now + 163) }
-    ensures { Puts out.old out.new (length name.now + 163) (name.now ++ (generation_text slot ++ ascii ")\n")) }
+    requires { Room out.old (length name.now + 184) }
+    ensures { Puts out.old out.new (length name.now + 184) (name.now ++ (generation_text slot ++ ascii ")\n")) }
 {
     out.text(name);
     put_generation(out, slot);
@@ -52,8 +53,8 @@ pub fn put_generations(
     installed: Option<Generation>,
     previous: Option<Generation>,
 )
-    requires { Room out.old 347 }
-    ensures { Puts out.old out.new 347 (installed_line installed ++ previous_line previous) }
+    requires { Room out.old 389 }
+    ensures { Puts out.old out.new 389 (installed_line installed ++ previous_line previous) }
 {
     put_line(out, b"(installed ", installed);
     put_line(out, b"(previous ", previous);

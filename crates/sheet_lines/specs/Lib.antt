@@ -1,2 +1,2 @@
--- Document 01, "The sheet": its lines. All of it is the paper's.
+-- Document 01, "The sheet", and document 02, Job 1: its lines. All of it is the paper's.
 pub mod Lines

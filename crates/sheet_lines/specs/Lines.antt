@@ -1,4 +1,4 @@
--- Document 01, "The sheet": its lines, in its order. Every one ends with a line feed; an absent part is `none` in its brackets.
+-- Document 01, "The sheet", and document 02, Job 1: its lines, in its order. Every one ends with a line feed; an absent part is `none` in its brackets.
 use Rattle.head_values.specs.declared.ReadAnchor.{ReadAnchor}
 use Rattle.head_ready.specs.declared.Generation.{Generation}
 use Rattle.std.specs.Prelude.{ℕ, suc, List, [], ◌∷◌, ◌++◌, Option, None, Some}
@@ -48,12 +48,14 @@ current_line (CurrentHead.Settled s) = ascii "(current settled " ++ (delivery_te
 unfoldable pub superseded_line : Option ReadAnchor → List ℕ
 superseded_line s = ascii "(superseded " ++ (slot_text Page.Sheet s ++ ascii ")\n")
 
--- `A H READINESS`
+-- `A H READINESS`; document 02, Job 1, "in the same place", after the handle: `A H N READINESS`
 unfoldable pub generation_text : Option Generation → List ℕ
 generation_text None = ascii "none"
-generation_text (Some g) = anchor_text Page.Sheet g.anchor ++ (spaced_text g.handle ++ (ascii " " ++ readiness_text g.readiness))
+generation_text (Some g) =
+    anchor_text Page.Sheet g.anchor
+    ++ (spaced_text g.handle ++ (spaced_text g.seq.0 ++ (ascii " " ++ readiness_text g.readiness)))
 
--- `(installed A H READINESS)` and `(previous A H READINESS)`
+-- `(installed A H N READINESS)` and `(previous A H N READINESS)`
 unfoldable pub installed_line : Option Generation → List ℕ
 installed_line g = ascii "(installed " ++ (generation_text g ++ ascii ")\n")
 

@@ -1,0 +1,2 @@
+-- For users: a view's line as it is put together.
+pub mod Views
