@@ -1,6 +1,7 @@
--- An apply that settles installs its ticket's block, with its handle and the readiness of its outcome.
+-- An apply that settles installs its ticket's block, under the ticket's number, with its handle and the readiness of its
+-- outcome; and where it carried, what was installed is previous.
 use Prim.Native.Nat.{ℕ}
-use mathlib.Core.Path.{◌≡◌, ap₂, sym}
+use mathlib.Core.Path.{◌≡◌, sym}
 use Rattle.std.proofs.lemmas.Bool.{cond_both}
 use Rattle.std.specs.Prelude.{Option, None, Some, not}
 use Rattle.head_values.specs.Anchors.{holds, same_anchor}
@@ -9,13 +10,14 @@ use Rattle.head_values.specs.declared.BalSkip.{BalSkip}
 use Rattle.head_values.specs.declared.CarryOutcome.{CarryOutcome}
 use Rattle.head_values.specs.declared.PreparedBal.{PreparedBal}
 use Rattle.head_values.specs.declared.ReadAnchor.{ReadAnchor}
+use Rattle.head_count.specs.declared.Seq.{Seq}
 use Rattle.head_ready.specs.Generations.{slot_anchor}
 use Rattle.head_ready.specs.declared.Generation.{Generation}
 use Rattle.head_ready.specs.declared.HeadOutcome.{HeadOutcome}
 use Rattle.head_current.specs.Heads.{delivery, has_ticket}
 use Rattle.head_current.specs.declared.HeadDelivery.{HeadDelivery}
 use Rattle.head_current.specs.declared.HeadTicket.{HeadTicket}
-use Rattle.head_life.specs.Apply.{plan_apply, plan_held, record_settle, settled_readiness}
+use Rattle.head_life.specs.Apply.{plan_apply, plan_held, previous_after, record_settle, settled_readiness}
 use Rattle.head_life.specs.declared.ApplyPlan.{ApplyPlan}
 use Rattle.head_life.specs.declared.HeadLifecycle.{HeadLifecycle}
 use Rattle.head_driver.specs.Moved.{moved}
@@ -27,18 +29,21 @@ use Rattle.head_call.specs.declared.Call.{Call}
 use Rattle.head_step.specs.Steps.{step}
 use Rattle.alike.proofs.Tests.{true_from_not_false}
 use Rattle.rules.proofs.Conditions.{ticket_is}
+use Rattle.redelivered.proofs.Settles.{generations}
 
 -- two answers that tell of a settle tell one outcome
 told_same : {x o : CarryOutcome} → Answer.Outcome (HeadOutcome.Settled x) ≡ Answer.Outcome (HeadOutcome.Settled o) → x ≡ o
 told_same p = cc
 
 module _ (d : Driver) (ticket : HeadTicket) (handle : ℕ) (o : CarryOutcome) where
-  abbrev settled_as : ReadAnchor → CarryOutcome → Option Generation
-  settled_as a x = Some (record { anchor = a; handle = handle; readiness = settled_readiness x })
+  abbrev pub settled_as : ReadAnchor → Seq → CarryOutcome → Option Generation × Option Generation
+  settled_as a n x =
+      (Some (record { anchor = a; handle = handle; seq = n; readiness = settled_readiness x }), previous_after d.life.installed x)
 
-  -- a reply that tells of that settle has installed it
+  -- a reply that tells of that settle leaves what is installed, and what is previous, so
   abbrev Installs : Reply → Type 0
-  Installs r = r.answer ≡ Answer.Outcome (HeadOutcome.Settled o) → r.driver.life.installed ≡ settled_as ticket.anchor o
+  Installs r =
+      r.answer ≡ Answer.Outcome (HeadOutcome.Settled o) → generations r.driver.life ≡ settled_as ticket.anchor ticket.seq o
 
   disagrees : {X : Type 0} → Answer.ListDisagrees ≡ Answer.Outcome (HeadOutcome.Settled o) → X
   disagrees p = cc
@@ -52,9 +57,10 @@ module _ (d : Driver) (ticket : HeadTicket) (handle : ℕ) (o : CarryOutcome) wh
   already : {X : Type 0} → Answer.Outcome HeadOutcome.AlreadySettled ≡ Answer.Outcome (HeadOutcome.Settled o) → X
   already p = cc
 
-  same : (a : ReadAnchor) (x : CarryOutcome) → a ≡ ticket.anchor → Answer.Outcome (HeadOutcome.Settled x) ≡ Answer.Outcome (HeadOutcome.Settled o)
-      → settled_as a x ≡ settled_as ticket.anchor o
-  same a x e p = ap₂ settled_as e (told_same p)
+  same : (held : HeadDelivery) (x : CarryOutcome) → (ticket.anchor ≡ held.anchor) × (ticket.seq ≡ held.seq)
+      → Answer.Outcome (HeadOutcome.Settled x) ≡ Answer.Outcome (HeadOutcome.Settled o)
+      → settled_as held.anchor held.seq x ≡ settled_as ticket.anchor ticket.seq o
+  same held x e p = λ j. settled_as (sym e.0 j) (sym e.1 j) (told_same p j)
 
   module _ (skip : BalSkip) (carried report : ℕ) where
     abbrev InstallsPlan : HeadLifecycle × ApplyPlan → Type 0
@@ -67,7 +73,7 @@ module _ (d : Driver) (ticket : HeadTicket) (handle : ℕ) (o : CarryOutcome) wh
         cond_both (not (has_ticket held ticket)) _ _ InstallsPlan (λ e. superseded)
         (λ e. cond_both (not (same_anchor list held.anchor)) _ _ InstallsPlan (λ f. foreign)
         (λ f. cond_both (holds (slot_anchor d.life.installed) held.anchor) _ _ InstallsPlan (λ h. already)
-        (λ h p. same held.anchor _ (sym (ticket_is held ticket (true_from_not_false _ e)).0) p)))
+        (λ h p. same held _ (ticket_is held ticket (true_from_not_false _ e)) p)))
 
   pub apply_installs : (list : PreparedBal) (carried report : ℕ) → Installs (step d (Call.Apply ticket list handle carried report))
   unfolding step apply plan_apply

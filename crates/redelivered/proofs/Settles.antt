@@ -1,4 +1,4 @@
--- What is installed stays until an apply settles.
+-- What is installed and what is previous stay until an apply settles.
 use Prim.Native.Nat.{ℕ}
 use mathlib.Core.List.{List, [], ◌∷◌}
 use mathlib.Core.Path.{◌≡◌, refl, ◌∙◌}
@@ -13,6 +13,7 @@ use Rattle.head_count.specs.declared.Epoch.{Epoch}
 use Rattle.head_count.specs.declared.Seq.{Seq}
 use Rattle.head_attempt.specs.declared.Waiter.{Waiter}
 use Rattle.head_ready.specs.Generations.{slot_anchor}
+use Rattle.head_ready.specs.declared.Generation.{Generation}
 use Rattle.head_ready.specs.declared.HeadOutcome.{HeadOutcome}
 use Rattle.head_current.specs.Heads.{delivery, has_ticket, is_preparing, is_settled, preparing_at}
 use Rattle.head_current.specs.declared.HeadDelivery.{HeadDelivery}
@@ -45,19 +46,25 @@ use Rattle.driver.specs.Turns.{made, turn_of}
 use Rattle.rules.specs.Runs.{Entry, after, turn_at}
 use Rattle.redelivered.specs.Statements.{NoneSettles, NotSettled}
 
--- whether the delivery repeats the current head or is new, what is installed stays
-pub delivery_keeps : (d : Driver) (a : ReadAnchor) (p : Hash) (cold : ℕ) → (deliver d a p cold).driver.life.installed ≡ d.life.installed
+-- what is installed, and what is previous
+abbrev pub generations : HeadLifecycle → Option Generation × Option Generation
+generations l = (l.installed, l.previous)
+
+-- whether the delivery repeats the current head or is new, both stay
+pub delivery_keeps : (d : Driver) (a : ReadAnchor) (p : Hash) (cold : ℕ)
+    → generations (deliver d a p cold).driver.life ≡ generations d.life
 unfolding deliver deliver_life moved counted
 delivery_keeps d a p cold =
-    cond_both (repeats (delivery d.life.current) a p) _ _ (λ (r : HeadLifecycle × Seq). r.0.installed ≡ d.life.installed) (λ e. refl) (λ e. refl)
+    cond_both (repeats (delivery d.life.current) a p) _ _ (λ (r : HeadLifecycle × Seq). generations r.0 ≡ generations d.life)
+    (λ e. refl) (λ e. refl)
 
 module _ (d : Driver) where
-  -- a reply that does not tell of a settle keeps what is installed
+  -- a reply that does not tell of a settle keeps both
   abbrev Keeps : Reply → Type 0
-  Keeps r = NotSettled (LineAnswer.Said r.answer) → r.driver.life.installed ≡ d.life.installed
+  Keeps r = NotSettled (LineAnswer.Said r.answer) → generations r.driver.life ≡ generations d.life
 
   abbrev KeepsLife : HeadLifecycle × Result Epoch HeadOutcome → Type 0
-  KeepsLife r = r.0.installed ≡ d.life.installed
+  KeepsLife r = generations r.0 ≡ generations d.life
 
   claim_keeps : (s : Option HeadDelivery) (ticket : HeadTicket) → KeepsLife (claim_held s d.life ticket)
   unfolding claim_held
@@ -115,14 +122,15 @@ module _ (d : Driver) where
   call_keeps Call.Heads = λ s. refl
 
   -- every line
-  line_keeps : (q : Option LineCall) (buffer : List ℕ) → NotSettled (turn_of d q buffer).answer → (turn_of d q buffer).driver.life.installed ≡ d.life.installed
+  line_keeps : (q : Option LineCall) (buffer : List ℕ) → NotSettled (turn_of d q buffer).answer
+      → generations (turn_of d q buffer).driver.life ≡ generations d.life
   unfolding turn_of made
   line_keeps None buffer s = refl
   line_keeps (Some LineCall.Sheet) buffer s = refl
   line_keeps (Some (LineCall.Make c)) buffer s = call_keeps c s
 
 -- and so every list of lines among which no apply settles
-pub lines_keep_installed : (d : Driver) (es : List Entry) → NoneSettles d es → (after d es).life.installed ≡ d.life.installed
+pub lines_keep_both : (d : Driver) (es : List Entry) → NoneSettles d es → generations (after d es).life ≡ generations d.life
 unfolding after
-lines_keep_installed d [] n = refl
-lines_keep_installed d (e ∷ es) n = lines_keep_installed (turn_at d e).driver es n.1 ∙ line_keeps d (call e.line) e.buffer n.0
+lines_keep_both d [] n = refl
+lines_keep_both d (e ∷ es) n = lines_keep_both (turn_at d e).driver es n.1 ∙ line_keeps d (call e.line) e.buffer n.0

@@ -1,2 +1,2 @@
--- What is proved of a block that is delivered again.
+-- What is proved of how a settled block is shown.
 pub mod Statements

@@ -28,7 +28,7 @@ use Rattle.head_step.specs.Steps.{step}
 use Rattle.head_life.specs.Views.{current_view, generation_view, provisional_view, spare_view, view}
 use Rattle.head_waits.specs.Waits.{abandoned_view, readiness_by_wait, resume, resume_as, shown_by_wait, view_frees, wait, wait_as, waits_anew}
 use Rattle.head_waits.specs.Parts.{waiter_at}
-use Rattle.head_ready.specs.Ranges.{ColdFits, GenerationSlotFits, ReadinessFits}
+use Rattle.head_ready.specs.Ranges.{ColdFits, GenerationSlotFits, ReadinessFits, SourceFits}
 use Rattle.hash.specs.Ranges.{Fits}
 use Rattle.head_values.specs.Ranges.{AnchorFits, SkipFits, SlotFits}
 use Rattle.head_current.specs.Ranges.{DeliveryFits, HeadFits, ReportFits, UnsettledFits}
@@ -146,20 +146,23 @@ applied_fits d (l, ApplyPlan.Admitted held) skip handle carried report f g h = o
 -- ---- views
 
 abbrev ViewFits : HeadView → Type 0
-ViewFits v = Fits v.handle × ReadinessFits v.readiness
+ViewFits v = SourceFits v.source × Fits v.handle × ReadinessFits v.readiness
 
 spare_fits : (s : Option ReadAnchor) (a : ReadAnchor) (spare : ℕ) → Fits spare → ViewFits (spare_view s a spare)
 unfolding spare_view
-spare_fits s a spare f = (f, cond_both (holds s a) _ _ ColdFits (λ e. tt) (λ e. tt))
+spare_fits s a spare f = (tt, f, cond_both (holds s a) _ _ ColdFits (λ e. tt) (λ e. tt))
 
-generation_fits : (source : Source) (g : Option Generation) (a : ReadAnchor) (other : HeadView) → GenerationSlotFits g → ViewFits other → ViewFits (generation_view source g a other)
+generation_fits : (source : Seq → Source) → ((n : Seq) → Fits n.0 → SourceFits (source n))
+    → (g : Option Generation) (a : ReadAnchor) (other : HeadView)
+    → GenerationSlotFits g → ViewFits other → ViewFits (generation_view source g a other)
 unfolding generation_view
-generation_fits source None a other f h = h
-generation_fits source (Some g) a other f h = cond_both (same_anchor g.anchor a) _ _ ViewFits (λ e. (f.handle, f.readiness)) (λ e. h)
+generation_fits source k None a other f h = h
+generation_fits source k (Some g) a other f h =
+    cond_both (same_anchor g.anchor a) _ _ ViewFits (λ e. (k g.seq f.seq, f.handle, f.readiness)) (λ e. h)
 
 provisional_fits : (u : UnsettledHead) (a : ReadAnchor) (other : HeadView) → UnsettledFits u → ViewFits other → ViewFits (provisional_view u a other)
 unfolding provisional_view
-provisional_fits u a other f h = cond_both (same_anchor u.delivery.anchor a) _ _ ViewFits (λ e. (f.provisional, tt)) (λ e. h)
+provisional_fits u a other f h = cond_both (same_anchor u.delivery.anchor a) _ _ ViewFits (λ e. (tt, f.provisional, tt)) (λ e. h)
 
 current_view_fits : (c : CurrentHead) (a : ReadAnchor) (other : HeadView) → HeadFits c → ViewFits other → ViewFits (current_view c a other)
 unfolding current_view
@@ -171,9 +174,9 @@ current_view_fits (CurrentHead.Settled s) a other f h = h
 view_fits : (l : HeadLifecycle) (a : ReadAnchor) (spare : ℕ) → A.LifeFits l → Fits spare → ViewFits (view l a spare)
 unfolding view
 view_fits l a spare f h =
-    generation_fits Source.Installed l.installed a _ f.installed
+    generation_fits Source.Installed (λ n k. k) l.installed a _ f.installed
     (current_view_fits l.current a _ f.current
-    (generation_fits Source.Previous l.previous a _ f.previous (spare_fits l.superseded a spare h)))
+    (generation_fits Source.Previous (λ n k. k) l.previous a _ f.previous (spare_fits l.superseded a spare h)))
 
 shown_fits : (r : HeadReadiness) → ReadinessFits r → ReadinessFits (readiness_by_wait r)
 unfolding readiness_by_wait
@@ -186,11 +189,11 @@ shown_fits (HeadReadiness.Cold (HeadCold.Settled k x)) f = f
 
 unowned_fits : (v : HeadView) → ViewFits v → ViewFits (shown_by_wait v)
 unfolding shown_by_wait
-unowned_fits v f = (f.0, shown_fits v.readiness f.1)
+unowned_fits v f = (f.0, f.1, shown_fits v.readiness f.2)
 
 abandoned_fits : (v : HeadView) (spare : ℕ) → ViewFits v → Fits spare → ViewFits (abandoned_view v spare)
 unfolding abandoned_view
-abandoned_fits v spare f h = cond_both (is_ready v.readiness) _ _ ViewFits (λ e. (h, tt)) (λ e. (f.0, tt))
+abandoned_fits v spare f h = cond_both (is_ready v.readiness) _ _ ViewFits (λ e. (tt, h, tt)) (λ e. (f.0, f.1, tt))
 
 -- ---- wait and resume
 

@@ -1,5 +1,5 @@
 -- The proofs of specs/Statements and of specs/TurnedAway, each lowest first. Fits: what is answered has its numbers below 2^64. Bytes: a call's line is a line of
--- bytes. LineFeeds: what `(sheet)` writes. Lines: lines against the calls that they write. Rule: the sheet rule. Inputs: the same over whole inputs. Said: the lines of refusals. Conditions, Tried: the tests, each and in order. TurnedAway: demand 1. Claims: a claim's 13.
+-- bytes. LineFeeds: what `(sheet)` writes. Lines: lines against the calls that they write. Rule: the sheet rule. Inputs: the same over whole inputs. Said: the lines of refusals. Conditions, Tried: the tests, each and in order. TurnedAway: demand 1. Claims: a claim's 13. Numbers: the numbers under which generations settled.
 pub mod Fits
 pub mod Bytes
 pub mod LineFeeds
@@ -11,3 +11,4 @@ pub mod Conditions
 pub mod Tried
 pub mod TurnedAway
 pub mod Claims
+pub mod Numbers
