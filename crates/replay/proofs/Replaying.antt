@@ -19,10 +19,11 @@ use Rattle.text.specs.Decimals.{number}
 use Rattle.text.specs.Rests.{Rest, word_here, number_got, read_number}
 use Rattle.text.specs.Words.{word}
 use Rattle.text.specs.Writes.{Wrote}
-use Rattle.text.proofs.Writes.{then}
+use Rattle.text.proofs.Writes.{sets_front, then}
 use Rattle.head_driver.specs.declared.Driver.{Driver}
 use Rattle.pending.specs.declared.Kept.{Kept}
 use Rattle.script.specs.declared.Printed.{Printed}
+use Rattle.replay.specs.Numbers.{struck}
 use Rattle.replay.specs.Recordings.{Collects, Counts, TakesAnswer, TakesRecord, after_answer, after_call, at_run, begun, call_compared, compared, fresh, mark_of, number_of, recorded, run_begun, same_front}
 use Rattle.replay.specs.declared.Replay.{Replay}
 use Rattle.replay.specs.declared.Standing.{Standing}
@@ -92,18 +93,37 @@ front_compared want m text rest =
     let l = length-append text rest in
     rw (le-leb (length text) (length (text ++ rest)) (omega arith), take-append_seam text rest)
 
--- what is printed, compared
-printed_compared : (want : List ℕ) (m : ℕ) (text : List ℕ) (left : Driver) (old new : List ℕ) (p : Printed) → Prints text left old new p
-    → same_front want m new p.written ≡ recorded want m text
-unfolding at_front
-printed_compared want m text left old new p prints = rw (prints.bytes, prints.count) (front_compared want m text (drop (length text) old))
+-- so is one that is put at the front of it
+put_compared : (want : List ℕ) (m : ℕ) (text old new : List ℕ) (n : ℕ) → Wrote old new 0 n text → n ≤ length old
+    → same_front want m new n ≡ recorded want m text
+put_compared want m text old new n w h =
+    let a = w.after in
+    let k : n ≡ length text = omega arith in
+    rw (w.bytes, k, sets_front old text (omega arith)) (front_compared want m text (drop (length text) old))
 
-pub compares : (d : Driver) (s : Standing) (call : List ℕ) (held : ℕ) (want old new : List ℕ) (p : Printed) (equal : Bool) (after : Standing)
-    → Finishes (reading d call held) old new p → equal ≡ same_front want s.wanted new p.written → after ≡ after_call s equal
-    → record { driver = p.driver; standing = after } ≡ call_compared d s call held want old
+module _ (text : List ℕ) (left : Driver) (old new : List ℕ) (p : Printed) (prints : Prints text left old new p) where
+  -- what is printed stands at the front
+  printed_text : take p.written new ≡ text
+  unfolding at_front
+  printed_text = rw (prints.bytes, prints.count) (take-append_seam text (drop (length text) old))
+
+  pub printed_within : p.written ≤ length new
+  unfolding at_front
+  printed_within =
+      let l = length-append text (drop (length text) old) in
+      let b = ap length prints.bytes in
+      let c = prints.count in
+      omega arith
+
+pub compares : (d : Driver) (s : Standing) (call : List ℕ) (held : ℕ) (want old new : List ℕ) (p : Printed) (bare bare' : List ℕ) (n : ℕ)
+    (equal : Bool) (after : Standing) → Finishes (reading d call held) old new p → Wrote bare bare' 0 n (struck (take p.written new)) → n ≤ length bare
+    → equal ≡ same_front want s.wanted bare' n
+    → after ≡ after_call s equal → record { driver = p.driver; standing = after } ≡ call_compared d s call held want old
 unfolding call_compared
-compares d s call held want old new p equal after finishes e is =
-    let same : equal ≡ recorded want s.wanted (cond (lent (reading d call held) old) (last_prints (reading d call held)) []) = (e ∙ printed_compared want s.wanted _ _ old new p finishes) in
+compares d s call held want old new p bare bare' n equal after finishes w fits e is =
+    let text = printed_text _ _ old new p finishes in
+    let same : equal ≡ recorded want s.wanted (struck (cond (lent (reading d call held) old) (last_prints (reading d call held)) [])) =
+    (e ∙ put_compared want s.wanted _ bare bare' n w fits ∙ ap (λ (t : List ℕ). recorded want s.wanted (struck t)) text) in
     rw (is, same, finishes.driver)
 
 -- ---- one line

@@ -9,6 +9,7 @@ use Rattle.text.specs.Writes.{Wrote}
 use Rattle.head_attempt.specs.declared.Waiter.{Waiter}
 use Rattle.head_current.specs.declared.CurrentHead.{CurrentHead}
 use Rattle.head_driver.specs.declared.Driver.{Driver}
+use Rattle.replay.specs.Numbers.{struck}
 use Rattle.replay.specs.declared.Replay.{Replay}
 use Rattle.replay.specs.declared.Standing.{Standing}
 use Rattle.replay.specs.declared.Tally.{Tally}
@@ -59,7 +60,7 @@ pub record Collects (wanted : ℕ) (line old new : List ℕ) (r : ℕ) : Type 0 
   pub full : length old ≤ wanted + length line → new ≡ old
   pub stays : length old ≤ wanted + length line → r ≡ wanted
 
--- the recorded text is there and is what the call prints
+-- the recorded text is there and is that text
 unfoldable pub recorded : List ℕ → ℕ → List ℕ → Bool
 recorded want wanted text = leb wanted (length want) && same_text (take wanted want) text
 
@@ -69,11 +70,11 @@ after_answer s wanted = record { tally = s.tally; wanted = wanted; held = 0 }
 unfoldable pub after_call : Standing → Bool → Standing
 after_call s equal = record { tally = compared s.tally equal; wanted = 0; held = 0 }
 
--- the call is made, as the last line of an input is answered, and its answer is compared with what was collected
+-- the call is made, as the last line of an input is answered, and its answer, without its settle numbers, is compared with what was collected
 unfoldable pub call_compared : Driver → Standing → List ℕ → ℕ → List ℕ → List ℕ → Replay
 call_compared d s call held want out = record {
   driver = cond (lent (reading d call held) out) (last_leaves (reading d call held)) d;
-  standing = after_call s (recorded want s.wanted (cond (lent (reading d call held) out) (last_prints (reading d call held)) []));
+  standing = after_call s (recorded want s.wanted (struck (cond (lent (reading d call held) out) (last_prints (reading d call held)) [])));
 }
 
 -- a line marked `<`, in the first bytes of a buffer, is collected; any other is not

@@ -1,5 +1,6 @@
 // replay: makes the calls of the recorded runs in `runs` and counts the answers that are not the recorded ones. The recording is lines, each
 // marked by its first byte: `#N` begins a run whose nine counters all stand at N, `>CALL` is a call, and the `<TEXT` lines before it are its answer.
+// The settle numbers that our answers show are left out of the comparison (numbers.rt), since the recorded runs show none.
 // Knows nothing of how answers come about, nor of what the Rust is. A line and an answer go beside their counts, as `keep` and `finish` ask for them.
 #![tactic(auto)]
 
@@ -7,6 +8,7 @@ ghost use Rattle.std.specs.Prelude.{◌≤◌, ◌≡◌, length};
 ghost use Rattle.head_count.specs.Counters.{stats_of};
 ghost use Rattle.replay.specs.Recordings.{Collects, Counts, TakesAnswer, TakesRecord, after_answer, after_call, at_run, begun, call_compared, compared, fresh, mark_of, number_of, run_begun, same_front, started};
 
+use crate::numbers::strike;
 use head_count::head_lifecycle::raised;
 use head_count::{Epoch, HeadStats, Seq};
 use head_driver::Driver;
@@ -19,6 +21,8 @@ use text::word::next_word;
 use text_decimal::read_decimal;
 use text_put::put::put;
 use text_same::same;
+
+mod numbers;
 
 // What was counted.
 #[derive(Clone, Copy)]
@@ -178,8 +182,7 @@ fn after_call(s: Standing, equal: bool) -> Standing
     }
 }
 
-// The call behind the mark is made, and its answer compared with what was collected.
-#[tactic(auto, using(crate::proofs::Replaying::compares))]
+// The call behind the mark is made, and its answer, without its settle numbers, which `bare` takes, compared with what was collected.
 fn call_compared(
     d: Driver,
     s: Standing,
@@ -187,11 +190,14 @@ fn call_compared(
     held: usize,
     want: &[u8],
     out: &mut [u8],
+    bare: &mut [u8],
 ) -> Replay
+    requires { length out.old ≤ length bare.old }
     ensures { result ≡ call_compared d s call.now held want.now out.old }
 {
     let printed = finish(d, call, held, out);
-    let equal = same_front(want, s.wanted, out, printed.written);
+    let count = strike(&out[..printed.written], bare);
+    let equal = same_front(want, s.wanted, bare, count);
     Replay {
         driver: printed.driver,
         standing: after_call(s, equal),
@@ -234,13 +240,21 @@ fn after_answer(s: Standing, wanted: usize) -> Standing
 
 // A line of the recording.
 #[tactic(auto, using(crate::proofs::Replaying::marked_held, crate::proofs::Replaying::marked_line, crate::proofs::Replaying::taken_call, crate::proofs::Replaying::taken_other, crate::proofs::Replaying::taken_run))]
-fn record_taken(d: Driver, s: Standing, line: &[u8], want: &mut [u8], out: &mut [u8]) -> Replay
+fn record_taken(
+    d: Driver,
+    s: Standing,
+    line: &[u8],
+    want: &mut [u8],
+    out: &mut [u8],
+    bare: &mut [u8],
+) -> Replay
+    requires { length out.old ≤ length bare.old }
     ensures { TakesRecord d s line.now want.old want.new out.old result }
 {
     let held = s.held;
     let kind = mark(line, held);
     match kind {
-        b'>' => call_compared(d, s, &line[1..], held - 1, want, out),
+        b'>' => call_compared(d, s, &line[1..], held - 1, want, out, bare),
         b'#' => run_begun(s, number(line, held)),
         _ => {
             let wanted = answer_taken(kind, s.wanted, line, held, want);
@@ -260,8 +274,10 @@ fn lines_taken(
     input: &[u8],
     want: &mut [u8],
     out: &mut [u8],
+    bare: &mut [u8],
 ) -> Replay
-    requires { 513 ≤ length pending.old }
+    requires line_room { 513 ≤ length pending.old }
+    requires bare_room { length out.old ≤ length bare.old }
     ensures { Counts start.standing.tally result.standing.tally }
 {
     let mut now = start;
@@ -273,7 +289,7 @@ fn lines_taken(
         s.held = kept.held;
         at = kept.at;
         if kept.ended {
-            now = record_taken(now.driver, s, pending, want, out);
+            now = record_taken(now.driver, s, pending, want, out, bare);
         } else {
             now.standing = s;
         }
@@ -316,11 +332,19 @@ fn counted<R: Read>(reader: &mut R) -> Tally
     let mut pending = [0u8; 514];
     let mut want = [0u8; 4096];
     let mut out = [0u8; 4096];
+    let mut bare = [0u8; 4096];
     let mut input = [0u8; 65536];
     let mut now = fresh();
     for _ in 0..u64::MAX {
         let n = reader.read(&mut input).unwrap_or(0);
-        now = lines_taken(now, &mut pending, &input[..n], &mut want, &mut out);
+        now = lines_taken(
+            now,
+            &mut pending,
+            &input[..n],
+            &mut want,
+            &mut out,
+            &mut bare,
+        );
         if n == 0 {
             break;
         }

@@ -68,6 +68,12 @@ faults! {
     HashFirstWord "hash-compared-by-first-word",
     MaskUnsettled "previous-masks-under-unsettled",
     MaskNever "current-never-masks",
+    // Settle numbers.
+    RedeliveryRenumbers "redelivery-renumbers",
+    PreviousNumberedByNew "previous-numbered-by-new",
+    NumberOneAbove "number-one-above",
+    ViewNumberedByLatest "view-numbered-by-latest",
+    AbandonedUnnumbered "abandoned-view-unnumbered",
     // Counters, near their end.
     SeqWraps "seq-wraps",
     EpochWraps "epoch-wraps",

@@ -1,5 +1,5 @@
-//! `model`: document 01's driver written a second time, without any code of the
-//! harness. It reads lines from standard input and prints answers, and one fault
+//! `model`: document 01's driver with Job 1's settle numbers written a second time, without any
+//! code of the harness. It reads lines from standard input and prints answers, and one fault
 //! can be planted in it.
 
 mod fault;

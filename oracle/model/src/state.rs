@@ -58,7 +58,7 @@ pub enum Answer {
     Claimed(u64),
     Done,
     Settled(Outcome),
-    View(&'static str, u64, Readiness),
+    View(View),
     Parked,
     Completion(&'static str),
     Link(Link),
@@ -69,6 +69,16 @@ pub enum Answer {
     Refused(u64),
     Superseded(Anchor),
     Foreign(Anchor, Anchor),
+}
+
+/// What a caller reads: where it comes from, its handle, and the delivery number under which it
+/// settled. Only an installed or previous generation has settled.
+#[derive(Clone, Copy)]
+pub struct View {
+    pub source: &'static str,
+    pub handle: u64,
+    pub number: Option<u64>,
+    pub readiness: Readiness,
 }
 
 #[derive(Clone, Copy, PartialEq, Eq)]
@@ -117,6 +127,8 @@ pub struct Head {
 pub struct Generation {
     pub anchor: Anchor,
     pub handle: u64,
+    /// The delivery number of the head as which it settled.
+    pub number: u64,
     pub readiness: Readiness,
 }
 
@@ -297,6 +309,11 @@ impl Model {
                 installed.readiness = Readiness::Ready;
             }
         }
+        if self.has(Fault::RedeliveryRenumbers) {
+            if let Some(installed) = &mut self.installed {
+                installed.number = self.seq;
+            }
+        }
         if self.has(Fault::RedeliveryEmptiesPrevious) {
             self.previous = None;
         }
@@ -429,6 +446,11 @@ impl Model {
                 {
                     previous.readiness = Readiness::Ready;
                 }
+                if let (true, Some(previous)) =
+                    (self.has(Fault::PreviousNumberedByNew), &mut self.previous)
+                {
+                    previous.number = head.seq;
+                }
                 Readiness::Ready
             }
             Outcome::Cold(link, skip) => {
@@ -436,9 +458,15 @@ impl Model {
                 Readiness::Cold(link, skip)
             }
         };
+        let above = self.has(Fault::NumberOneAbove);
         self.installed = Some(Generation {
             anchor: head.anchor,
             handle,
+            number: if above {
+                next(head.seq, false)
+            } else {
+                head.seq
+            },
             readiness,
         });
         if self.mints_epoch(&head) {
@@ -472,22 +500,27 @@ impl Model {
         }
     }
 
-    /// The generation a caller at `anchor` reads: source, handle, readiness.
-    fn find(&self, anchor: Anchor, spare: u64) -> (&'static str, u64, Readiness) {
+    /// The generation a caller at `anchor` reads.
+    fn find(&self, anchor: Anchor, spare: u64) -> View {
         let previous = self.previous.filter(|held| held.anchor == anchor);
         if let Some(held) = self.installed.filter(|held| held.anchor == anchor) {
-            return ("installed", held.handle, held.readiness);
+            return self.settled_view("installed", held);
         }
         if let (Some(held), true) = (previous, self.has(Fault::PreviousFirst)) {
-            return ("previous", held.handle, held.readiness);
+            return self.settled_view("previous", held);
         }
         if let Some(head) = &self.current {
             if head.anchor == anchor && head.pose != Pose::Settled {
-                return ("provisional", head.handle, Readiness::Unprepared);
+                return View {
+                    source: "provisional",
+                    handle: head.handle,
+                    number: None,
+                    readiness: Readiness::Unprepared,
+                };
             }
         }
         if let Some(held) = previous {
-            return ("previous", held.handle, held.readiness);
+            return self.settled_view("previous", held);
         }
         let superseded = self.superseded == Some(anchor) && !self.has(Fault::SupersededForgotten);
         let reason = if superseded {
@@ -495,7 +528,22 @@ impl Model {
         } else {
             Readiness::Undelivered
         };
-        ("spare", spare, reason)
+        View {
+            source: "spare",
+            handle: spare,
+            number: None,
+            readiness: reason,
+        }
+    }
+
+    fn settled_view(&self, source: &'static str, held: Generation) -> View {
+        let latest = self.has(Fault::ViewNumberedByLatest);
+        View {
+            source,
+            handle: held.handle,
+            number: Some(if latest { self.seq } else { held.number }),
+            readiness: held.readiness,
+        }
     }
 
     fn count_view(&mut self, readiness: Readiness) {
@@ -506,9 +554,9 @@ impl Model {
     }
 
     fn snapshot(&mut self, anchor: Anchor, spare: u64) -> Answer {
-        let (source, handle, readiness) = self.find(anchor, spare);
-        self.count_view(readiness);
-        Answer::View(source, handle, readiness)
+        let view = self.find(anchor, spare);
+        self.count_view(view.readiness);
+        Answer::View(view)
     }
 
     fn wait(&mut self, number: u64, anchor: Anchor, spare: u64) -> Answer {
@@ -543,18 +591,12 @@ impl Model {
             return Answer::Parked;
         }
         self.waiters[number] = Waiter::Free;
-        let (source, handle, readiness) = self.find(anchor, spare);
-        self.count_view(readiness);
-        let gone = readiness == Readiness::Unprepared && !self.has(Fault::WaitShowsUnprepared);
-        Answer::View(
-            source,
-            handle,
-            if gone {
-                Readiness::Abandoned
-            } else {
-                readiness
-            },
-        )
+        let mut view = self.find(anchor, spare);
+        self.count_view(view.readiness);
+        if view.readiness == Readiness::Unprepared && !self.has(Fault::WaitShowsUnprepared) {
+            view.readiness = Readiness::Abandoned;
+        }
+        Answer::View(view)
     }
 
     fn resume(&mut self, number: u64, spare: u64) -> Answer {
@@ -584,18 +626,23 @@ impl Model {
     /// The answer to a waiter whose preparation was abandoned.
     fn abandoned(&mut self, number: usize, anchor: Anchor, spare: u64) -> Answer {
         self.waiters[number] = Waiter::Free;
-        let (source, handle, readiness) = self.find(anchor, spare);
-        let ready = readiness == Readiness::Ready;
+        let mut view = self.find(anchor, spare);
+        let ready = view.readiness == Readiness::Ready;
         if ready && self.has(Fault::AbandonedCountsCold) {
             self.raise(COLD_VIEWS);
         } else {
-            self.count_view(readiness);
+            self.count_view(view.readiness);
         }
         if ready && !self.has(Fault::AbandonedHandsOut) {
-            Answer::View("spare", spare, Readiness::Abandoned)
-        } else {
-            Answer::View(source, handle, Readiness::Abandoned)
+            view.source = "spare";
+            view.handle = spare;
+            view.number = None;
         }
+        if self.has(Fault::AbandonedUnnumbered) {
+            view.number = None;
+        }
+        view.readiness = Readiness::Abandoned;
+        Answer::View(view)
     }
 
     fn completion(&self, anchor: Anchor) -> Answer {

@@ -1,7 +1,8 @@
 //! Answers and sheets as text.
 
 use crate::state::{
-    Anchor, Answer, End, Generation, Head, Link, Model, Outcome, Pose, Readiness, Skip, Waiter,
+    Anchor, Answer, End, Generation, Head, Link, Model, Outcome, Pose, Readiness, Skip, View,
+    Waiter,
 };
 use std::fmt::{self, Display, Formatter};
 
@@ -16,9 +17,7 @@ impl Display for Lines<'_> {
             Answer::Claimed(epoch) => writeln!(f, "(claimed {epoch})"),
             Answer::Done => writeln!(f, "(done)"),
             Answer::Settled(outcome) => writeln!(f, "(settled {outcome})"),
-            Answer::View(source, handle, readiness) => {
-                writeln!(f, "(view {source} {handle} {readiness})")
-            }
+            Answer::View(view) => writeln!(f, "(view {view})"),
             Answer::Parked => writeln!(f, "(parked)"),
             Answer::Completion(end) => writeln!(f, "(completion {end})"),
             Answer::Link(Link::Linked) => writeln!(f, "(link linked)"),
@@ -120,7 +119,29 @@ impl Display for Head {
 
 impl Display for Generation {
     fn fmt(&self, f: &mut Formatter) -> fmt::Result {
-        write!(f, "{} {} {}", self.anchor, self.handle, self.readiness)
+        let Self {
+            anchor,
+            handle,
+            number,
+            readiness,
+        } = self;
+        write!(f, "{anchor} {handle} {number} {readiness}")
+    }
+}
+
+impl Display for View {
+    fn fmt(&self, f: &mut Formatter) -> fmt::Result {
+        let Self {
+            source,
+            handle,
+            number,
+            readiness,
+        } = self;
+        write!(f, "{source} {handle}")?;
+        if let Some(number) = number {
+            write!(f, " {number}")?;
+        }
+        write!(f, " {readiness}")
     }
 }
 

@@ -1,5 +1,6 @@
 //! One script on both sides.
 
+use crate::filter::without_numbers;
 use crate::program::{Failure, Program, Run};
 use crate::script::{Script, Transcript};
 use crate::shrink::shrink;
@@ -9,36 +10,78 @@ use std::fmt::{self, Display, Formatter};
 /// The most lines of a text that are shown.
 const MOST_SHOWN: usize = 200;
 
-/// A script on which a program differs from the published code.
+/// A program and what its answers are held against.
+#[derive(Clone)]
+pub struct Sides {
+    pub program: Program,
+    /// A second program, which the first must equal byte for byte. Without one it is the published
+    /// code, which has no settle numbers, so they are struck out of the program's answers.
+    pub beside: Option<Program>,
+}
+
+/// A script on which a program differs from what it is held against.
 pub struct Difference {
+    /// What the two sides are called.
+    names: [&'static str; 2],
     script: Script,
     expected: Transcript,
     run: Run,
     line: usize,
 }
 
-/// Run `program` on a script whose answers are known.
-///
-/// # Errors
-///
-/// One line, if the program cannot be started.
-pub fn compare(
-    program: &Program,
-    script: Script,
-    expected: Transcript,
-) -> Result<Option<Difference>, String> {
-    let run = program.run(script.text(), expected.text().len())?;
-    let line = expected.first_difference(&run.output);
-    let ended_badly = run
-        .failure
-        .is_some()
-        .then(|| script.len().saturating_sub(1));
-    Ok(line.or(ended_badly).map(|line| Difference {
-        script,
-        expected,
-        run,
-        line,
-    }))
+impl Sides {
+    /// The two programs told to start from `start`.
+    #[must_use]
+    pub fn starting_at(self, start: Start) -> Self {
+        Self {
+            program: self.program.starting_at(start),
+            beside: self.beside.map(|beside| beside.starting_at(start)),
+        }
+    }
+
+    /// Run both sides on a script that the published code answers so.
+    ///
+    /// # Errors
+    ///
+    /// One line, if a program cannot be started or the second ends badly.
+    pub fn compare(
+        &self,
+        script: Script,
+        published: Transcript,
+    ) -> Result<Option<Difference>, String> {
+        let mut run = self.program.run(script.text(), published.text().len())?;
+        let (names, expected) = match &self.beside {
+            Some(beside) => {
+                let text = printed(beside, &script, &published)?;
+                (["beside", "program"], published.printed_by_another(text))
+            }
+            None => {
+                run.output = without_numbers(&run.output);
+                (["oracle", "program, without settle numbers"], published)
+            }
+        };
+        let line = expected.first_difference(&run.output);
+        let ended_badly = run
+            .failure
+            .is_some()
+            .then(|| script.len().saturating_sub(1));
+        Ok(line.or(ended_badly).map(|line| Difference {
+            names,
+            script,
+            expected,
+            run,
+            line,
+        }))
+    }
+}
+
+/// What the second program prints on a script.
+fn printed(beside: &Program, script: &Script, published: &Transcript) -> Result<Vec<u8>, String> {
+    let run = beside.run(script.text(), published.text().len())?;
+    match run.failure {
+        None => Ok(run.output),
+        Some(failure) => Err(format!("{beside} ended badly: {failure}")),
+    }
 }
 
 impl Difference {
@@ -54,16 +97,17 @@ impl Difference {
     /// # Errors
     ///
     /// One line, if the program cannot be started any more.
-    pub fn shrunk(self, program: &Program, start: Start) -> Result<Self, String> {
+    pub fn shrunk(self, sides: &Sides, start: Start) -> Result<Self, String> {
         if matches!(self.run.failure, Some(Failure::EndedByLimit)) {
             return Ok(self);
         }
         let script = shrink(&self.script, start, |script| {
             let expected = script.answers(start);
-            compare(program, script.clone(), expected).map(|difference| difference.is_some())
+            let difference = sides.compare(script.clone(), expected);
+            difference.map(|difference| difference.is_some())
         })?;
         let expected = script.answers(start);
-        Ok(compare(program, script, expected)?.unwrap_or(self))
+        Ok(sides.compare(script, expected)?.unwrap_or(self))
     }
 }
 
@@ -76,9 +120,9 @@ impl Display for Difference {
             self.line + 1
         )?;
         put_text(f, self.script.text())?;
-        writeln!(f, "oracle:")?;
+        writeln!(f, "{}:", self.names[0])?;
         put_text(f, self.expected.text())?;
-        writeln!(f, "program:")?;
+        writeln!(f, "{}:", self.names[1])?;
         put_text(f, &self.run.output)?;
         match &self.run.failure {
             Some(failure) => writeln!(f, "program ended badly: {failure}"),

@@ -1,17 +1,30 @@
 //! Short histories of a driver over few anchors and numbers, so that many of
 //! them lead to the same sheet.
 
+use crate::filter::with_numbers;
 use crate::random::Random;
 use crate::script::Script;
-use harness::{Apply, Call, Oracle, ReadAnchor, Skip, Unshown, B256};
+use harness::{Answer, Apply, Call, Oracle, Outcome, ReadAnchor, Skip, Unshown, B256};
 
 /// A list of calls from a new driver, with where the published code stands after
 /// it.
 #[derive(Clone)]
 pub(crate) struct History {
     pub(crate) script: Script,
-    pub(crate) sheet: Vec<u8>,
+    pub(crate) sheet: String,
     pub(crate) unshown: Unshown,
+    /// The settle numbers of the installed and the previous generation.
+    settle_numbers: [Option<u64>; 2],
+}
+
+impl History {
+    /// The history with settle numbers on its sheet.
+    pub(crate) fn with_numbers(self) -> Self {
+        Self {
+            sheet: with_numbers(&self.sheet, self.settle_numbers),
+            ..self
+        }
+    }
 }
 
 /// The hashes of the histories' anchors.
@@ -56,13 +69,15 @@ pub(crate) fn history(number: u64) -> History {
     let mut oracle = Oracle::default();
     let mut script = Script::default();
     let mut current = ANCHORS[0];
+    let mut numbers = [None; 2];
     let mut line = Vec::new();
     for _ in 0..calls {
         let call = call(&mut random, oracle.sequence(), current);
         if let Call::Deliver { anchor, .. } = call {
             current = anchor;
         }
-        oracle.step(call);
+        let answer = oracle.step(call);
+        numbers = numbers_after(numbers, &call, &answer);
         line.clear();
         call.write(&mut line);
         script.push(&line);
@@ -71,8 +86,20 @@ pub(crate) fn history(number: u64) -> History {
     oracle.step(Call::Sheet).write(&mut sheet);
     History {
         script,
-        sheet,
+        sheet: String::from_utf8(sheet).expect("a sheet is text"),
         unshown: oracle.unshown(),
+        settle_numbers: numbers,
+    }
+}
+
+/// The settle numbers after a call. The published code keeps none, but an apply that it settled
+/// named the delivery under which it did.
+fn numbers_after(numbers: [Option<u64>; 2], call: &Call, answer: &Answer) -> [Option<u64>; 2] {
+    let [installed, _] = numbers;
+    match (call, answer) {
+        (Call::Apply(apply), Answer::Settled(Outcome::Carried(_))) => [Some(apply.seq), installed],
+        (Call::Apply(apply), Answer::Settled(_)) => [Some(apply.seq), None],
+        _ => numbers,
     }
 }
 
@@ -117,5 +144,34 @@ fn call(random: &mut Random, (seq, epoch): (u64, u64), current: ReadAnchor) -> C
             waiter: random.pick(&WAITERS),
             handle: 81,
         },
+    }
+}
+
+#[cfg(test)]
+mod tests {
+    use super::*;
+    use crate::cases::cases;
+
+    /// Every sheet of the cases, as the published code writes it with settle numbers put in.
+    #[test]
+    fn sheets_get_the_numbers_of_the_cases() {
+        let mut sheets = 0;
+        for case in cases() {
+            let mut oracle = Oracle::default();
+            let mut numbers = [None; 2];
+            for line in case.input.lines() {
+                let call = Call::read(line.as_bytes()).expect("every line of a case is a call");
+                let answer = oracle.step(call);
+                numbers = numbers_after(numbers, &call, &answer);
+                if call == Call::Sheet {
+                    let mut sheet = Vec::new();
+                    answer.write(&mut sheet);
+                    let sheet = with_numbers(&String::from_utf8_lossy(&sheet), numbers);
+                    assert!(case.output.contains(&sheet), "{}: {sheet}", case.name);
+                    sheets += 1;
+                }
+            }
+        }
+        assert!(sheets > 10, "{sheets}");
     }
 }

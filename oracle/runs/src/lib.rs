@@ -2,6 +2,7 @@
 
 pub mod cases;
 pub mod compare;
+pub mod filter;
 mod forms;
 mod generator;
 mod histories;

@@ -1,5 +1,6 @@
-//! The command lines of `gen` and `compare`.
+//! The command lines of `gen` and `compare`, and an option of `check` and `sheets`.
 
+use crate::compare::Sides;
 use crate::generator::Recipe;
 use crate::program::Program;
 use crate::scripts::Scripts;
@@ -7,11 +8,14 @@ use harness::Start;
 use std::num::NonZeroUsize;
 use std::str::FromStr;
 
+/// The program writes no settle numbers, as the published code does not.
+pub const WITHOUT_NUMBERS: &str = "--without-numbers";
+
 /// What `compare` was asked.
 pub struct Comparison {
     pub scripts: Scripts,
     pub recipe: Recipe,
-    pub program: Program,
+    pub sides: Sides,
 }
 
 /// What `gen` was asked.
@@ -40,7 +44,7 @@ impl Generation {
 }
 
 impl Comparison {
-    /// Read `--seeds FROM TO`, `--short` or `--changed`, the options of `gen`,
+    /// Read `--seeds FROM TO`, `--short` or `--changed`, `--beside SECOND`, the options of `gen`,
     /// and after `--` the program.
     ///
     /// # Errors
@@ -48,6 +52,7 @@ impl Comparison {
     /// One line that says what is wrong.
     pub fn read(mut arguments: impl Iterator<Item = String>) -> Result<Self, String> {
         let mut scripts = None;
+        let mut beside = None;
         let mut recipe = Recipe::default();
         while let Some(argument) = arguments.next() {
             match argument.as_str() {
@@ -61,15 +66,21 @@ impl Comparison {
                 }
                 "--short" => scripts = Some(Scripts::Short),
                 "--changed" => scripts = Some(Scripts::Changed),
+                "--beside" => {
+                    let second = arguments.next().ok_or("--beside needs a program")?;
+                    beside = Some(Program::new(vec![second])?);
+                }
                 "--" => break,
                 _ if recipe_option(&mut recipe, &argument, &mut arguments)? => {}
                 _ => return Err(format!("{argument:?} is no option")),
             }
         }
+        let program = Program::new(arguments.collect())?;
+        let sides = Sides { program, beside };
         Ok(Self {
             scripts: scripts.ok_or("one of --seeds FROM TO, --short, --changed is needed")?,
             recipe,
-            program: Program::new(arguments.collect())?.starting_at(recipe.start),
+            sides: sides.starting_at(recipe.start),
         })
     }
 }

@@ -15,7 +15,9 @@ pub(crate) enum Part {
     End,
     Handle,
     Installed,
+    InstalledNumber,
     Previous,
+    PreviousNumber,
     Superseded,
     Waiter(usize),
 }
@@ -40,7 +42,9 @@ impl Part {
             Self::End => "end",
             Self::Handle => "provisional handle",
             Self::Installed => "installed",
+            Self::InstalledNumber => "installed number",
             Self::Previous => "previous",
+            Self::PreviousNumber => "previous number",
             Self::Superseded => "superseded",
             Self::Waiter(_) => "waiter",
         }
@@ -59,7 +63,9 @@ impl Part {
             Self::End,
             Self::Handle,
             Self::Installed,
+            Self::InstalledNumber,
             Self::Previous,
+            Self::PreviousNumber,
             Self::Superseded,
         ];
         single.into_iter().chain((0..16).map(Self::Waiter))
@@ -75,8 +81,10 @@ impl Part {
             Self::Pose => a.pose != b.pose,
             Self::End => a.end != b.end,
             Self::Handle => a.handle != b.handle,
-            Self::Installed => a.installed != b.installed,
-            Self::Previous => a.previous != b.previous,
+            Self::Installed => a.installed.unnumbered() != b.installed.unnumbered(),
+            Self::InstalledNumber => a.installed.number != b.installed.number,
+            Self::Previous => a.previous.unnumbered() != b.previous.unnumbered(),
+            Self::PreviousNumber => a.previous.number != b.previous.number,
             Self::Superseded => a.superseded != b.superseded,
             Self::Waiter(number) => a.waiters[number] != b.waiters[number],
         }
@@ -108,8 +116,8 @@ impl Part {
             Self::Pose => vec![vec![format!("(claim {current} {delivered})")]],
             Self::End => vec![vec![format!("(completion {current})")]],
             Self::Handle => vec![vec![snapshot(current)]],
-            Self::Installed => vec![vec![snapshot(installed)]],
-            Self::Previous => {
+            Self::Installed | Self::InstalledNumber => vec![vec![snapshot(installed)]],
+            Self::Previous | Self::PreviousNumber => {
                 let previous = or(or(a.previous.anchor, b.previous.anchor), "(0 none)");
                 vec![vec![deliver(installed, ZERO), snapshot(previous)]]
             }

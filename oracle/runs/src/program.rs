@@ -48,6 +48,13 @@ impl Display for Failure {
     }
 }
 
+/// The command's first word, which names the program.
+impl Display for Program {
+    fn fmt(&self, f: &mut Formatter) -> fmt::Result {
+        f.write_str(&self.command[0])
+    }
+}
+
 impl Program {
     /// # Errors
     ///
@@ -123,8 +130,8 @@ impl Program {
         let ended = read.and_then(|_| child.wait());
         match ended {
             Ok(status) if status.success() => Ok(output),
-            Ok(status) => Err(format!("{} ended with {status}", self.command[0])),
-            Err(error) => Err(format!("{}: {error}", self.command[0])),
+            Ok(status) => Err(format!("{self} ended with {status}")),
+            Err(error) => Err(format!("{self}: {error}")),
         }
     }
 
@@ -134,7 +141,7 @@ impl Program {
             .stdin(Stdio::piped())
             .stdout(Stdio::piped())
             .spawn()
-            .map_err(|error| format!("{} cannot be started: {error}", self.command[0]))
+            .map_err(|error| format!("{self} cannot be started: {error}"))
     }
 }
 

@@ -83,7 +83,7 @@ impl<'a> FromIterator<&'a [u8]> for Script {
 }
 
 /// The answers to a script, line by line of the script.
-#[derive(Debug, Default)]
+#[derive(Clone, Debug, Default)]
 pub struct Transcript {
     text: Vec<u8>,
     ends: Vec<usize>,
@@ -114,6 +114,29 @@ impl Transcript {
         &self.text[span(&self.ends, index)]
     }
 
+    /// What another program printed on the same script, cut into answers of as many lines as
+    /// these have.
+    #[must_use]
+    pub fn printed_by_another(&self, text: Vec<u8>) -> Self {
+        let mut lines = text.split_inclusive(|byte| *byte == b'\n').map(<[u8]>::len);
+        let mut ends = Vec::with_capacity(self.ends.len());
+        let mut end = 0;
+        for index in 0..self.ends.len() {
+            let count = self
+                .answer(index)
+                .iter()
+                .filter(|byte| **byte == b'\n')
+                .count();
+            end += lines.by_ref().take(count).sum::<usize>();
+            ends.push(end);
+        }
+        Self {
+            text,
+            ends,
+            tally: Tally::default(),
+        }
+    }
+
     /// The script line whose answer holds the first byte where `other` differs.
     #[must_use]
     pub fn first_difference(&self, other: &[u8]) -> Option<usize> {
@@ -135,4 +158,23 @@ impl Transcript {
 fn span(ends: &[usize], index: usize) -> Range<usize> {
     let start = index.checked_sub(1).map_or(0, |before| ends[before]);
     start..ends[index]
+}
+
+#[cfg(test)]
+mod tests {
+    use super::*;
+
+    #[test]
+    fn another_text_is_cut_by_the_answers_lines() {
+        let lines: [&[u8]; 3] = [b"(sheet)", b"(stats)", b"(report)"];
+        let answers = Script::from_iter(lines).answers(Start::default());
+        let text = b"a\nb\nc\nd\ne\nf\n(report none)\n";
+        let other = answers.printed_by_another(text.to_vec());
+        assert_eq!(other.answer(0), b"a\nb\nc\nd\ne\n");
+        assert_eq!(other.answer(1), b"f\n");
+        assert_eq!(other.answer(2), b"(report none)\n");
+        assert_eq!(other.first_difference(b"a\nb\nc\nd\ne\nF\n"), Some(1));
+        let short = answers.printed_by_another(b"a\n".to_vec());
+        assert_eq!(short.answer(2), b"");
+    }
 }

@@ -1,9 +1,9 @@
 //! Two searches over runs of a program: equal sheets with unequal futures, and
 //! unequal sheets that no probe separates.
 //!
-//! The published code plans, which is to say that it tells which histories are
-//! worth a pair. What is compared is the program's alone: its sheets and its
-//! answers.
+//! The published code plans, which is to say that it tells which histories are worth a pair. Its
+//! sheets get the settle numbers that it does not have, unless the program has none either. What is
+//! compared is the program's alone: its sheets and its answers, settle numbers with.
 
 use crate::generator::further;
 use crate::histories::{history, History, ANCHORS, HASHES, WAITERS};
@@ -43,6 +43,8 @@ pub struct Search {
     pub pairs: usize,
     pub seed: u64,
     pub spoil: Option<Spoil>,
+    /// Whether the program writes settle numbers.
+    pub settle_numbers: bool,
 }
 
 /// What a search that found nothing went through.
@@ -85,10 +87,10 @@ impl Search {
         let mut searched = Searched::default();
         let mut progress = Progress::default();
         for (number, class) in self.classes().into_iter().enumerate() {
-            let first = history(class[0]);
+            let first = self.history(class[0]);
             let lines = self.further(&first, number);
             let expected = self.hear(&first, lines.text(), &mut searched)?;
-            for other in class[1..].iter().copied().map(history) {
+            for other in class[1..].iter().map(|number| self.history(*number)) {
                 progress.show("equal sheets", searched.lines);
                 if searched.pairs == self.pairs {
                     progress.clear();
@@ -121,8 +123,7 @@ impl Search {
     /// The further lines of a class of histories: an opening, random calls, and
     /// a sheet unless sheets are spoilt.
     fn further(&self, first: &History, class: usize) -> Script {
-        let sheet = String::from_utf8_lossy(&first.sheet);
-        let opening = opening(&Shown::read(&sheet), class, &anchor_texts(), &WAITERS);
+        let opening = opening(&Shown::read(&first.sheet), class, &anchor_texts(), &WAITERS);
         let mut lines = first.script.clone();
         let mut further_lines = Script::default();
         for line in &opening {
@@ -152,9 +153,8 @@ impl Search {
             if searched.pairs == self.pairs {
                 break;
             }
-            let [first, other] = [history(pair[0]), history(pair[1])];
-            let sheets = [&first, &other].map(|history| String::from_utf8_lossy(&history.sheet));
-            let [a, b] = [Shown::read(&sheets[0]), Shown::read(&sheets[1])];
+            let [first, other] = [pair[0], pair[1]].map(|number| self.history(number));
+            let [a, b] = [&first, &other].map(|history| Shown::read(&history.sheet));
             let told_by_one = [a.counters != b.counters, anchors(&a) != anchors(&b)];
             if let Some(which) = told_by_one.iter().position(|told| *told) {
                 if easy[which] == self.pairs / EASY {
@@ -179,8 +179,7 @@ impl Search {
         other: &History,
         searched: &mut Searched,
     ) -> Result<Option<Found>> {
-        let sheets = [first, other].map(|history| String::from_utf8_lossy(&history.sheet));
-        let shown = [Shown::read(&sheets[0]), Shown::read(&sheets[1])];
+        let shown = [first, other].map(|history| Shown::read(&history.sheet));
         let few = probes(&shown[0], &shown[1]);
         let mut last = None;
         for Probe { part, calls } in few.into_iter().chain(all_probes(&shown[0], &shown[1])) {
@@ -220,7 +219,7 @@ impl Search {
             if pairs >= self.pairs {
                 break;
             }
-            let history = history(number);
+            let history = self.history(number);
             if !known.insert(hash_of(&history.script.text())) {
                 continue;
             }
@@ -251,7 +250,7 @@ impl Search {
     fn in_order(&self) -> Vec<u64> {
         let mut order = BTreeMap::new();
         for number in self.numbers().take(HISTORIES_A_PAIR * self.pairs) {
-            let history = history(number);
+            let history = self.history(number);
             let sheet = self.planned(&history);
             let shown = Shown::read(&sheet);
             let key = (
@@ -270,9 +269,19 @@ impl Search {
         (0..).map(move |number| first + number)
     }
 
+    /// The history of a number, its sheet in the program's writing.
+    fn history(&self, number: u64) -> History {
+        let history = history(number);
+        if self.settle_numbers {
+            history.with_numbers()
+        } else {
+            history
+        }
+    }
+
     /// The sheet that the plan goes by.
     fn planned(&self, history: &History) -> String {
-        self.spoilt(&String::from_utf8_lossy(&history.sheet), history)
+        self.spoilt(&history.sheet, history)
     }
 
     fn spoilt(&self, sheet: &str, history: &History) -> String {

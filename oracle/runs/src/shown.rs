@@ -1,10 +1,11 @@
 //! A sheet's text taken apart, and sheets spoilt on purpose.
 
+use crate::filter::without_numbers;
 use harness::Unshown;
 use std::fmt::Write;
 
-/// How a sheet is spoilt before it is compared: the first six leave something
-/// out, the others add what no answer tells.
+/// How a sheet is spoilt before it is compared: the first eight leave something out, the others
+/// add what no answer tells.
 #[derive(Clone, Copy, Debug, PartialEq, Eq)]
 pub enum Spoil {
     Epoch,
@@ -12,6 +13,10 @@ pub enum Spoil {
     End,
     Superseded,
     Previous,
+    /// The settle number of the installed generation.
+    InstalledNumber,
+    /// The settle number of the previous generation.
+    PreviousNumber,
     WaiterAnchor,
     /// How many lines were fed.
     Lines,
@@ -22,12 +27,14 @@ pub enum Spoil {
 }
 
 impl Spoil {
-    const NAMES: [(&'static str, Self); 9] = [
+    const NAMES: [(&'static str, Self); 11] = [
         ("epoch", Self::Epoch),
         ("parent-hash", Self::ParentHash),
         ("end", Self::End),
         ("superseded", Self::Superseded),
         ("previous", Self::Previous),
+        ("installed-number", Self::InstalledNumber),
+        ("previous-number", Self::PreviousNumber),
         ("waiter-anchor", Self::WaiterAnchor),
         ("lines", Self::Lines),
         ("stored", Self::Stored),
@@ -77,6 +84,8 @@ impl Spoil {
             Self::End if line.starts_with("(current unclaimed ") => before_last(line, " "),
             Self::Superseded if line.starts_with("(superseded ") => String::new(),
             Self::Previous if line.starts_with("(previous ") => String::new(),
+            Self::InstalledNumber if line.starts_with("(installed ") => without_number(line),
+            Self::PreviousNumber if line.starts_with("(previous ") => without_number(line),
             Self::WaiterAnchor if line.starts_with("(wait ") => before_last(line, " ("),
             _ => line.to_owned(),
         }
@@ -85,6 +94,11 @@ impl Spoil {
 
 fn before_last(line: &str, mark: &str) -> String {
     line[..line.rfind(mark).unwrap_or(line.len())].to_owned()
+}
+
+/// A generation's line without its settle number.
+fn without_number(line: &str) -> String {
+    String::from_utf8_lossy(&without_numbers(line.as_bytes())).into_owned()
 }
 
 /// The current line without the hash that follows the anchor.
@@ -120,8 +134,10 @@ pub(crate) struct Shown<'a> {
 #[derive(Clone, Copy, Default, PartialEq, Eq)]
 pub(crate) struct Generation<'a> {
     pub(crate) anchor: &'a str,
-    /// Handle and readiness.
-    pub(crate) rest: &'a str,
+    pub(crate) handle: &'a str,
+    /// Empty on a sheet without settle numbers.
+    pub(crate) number: &'a str,
+    pub(crate) readiness: &'a str,
 }
 
 impl<'a> Shown<'a> {
@@ -185,7 +201,24 @@ impl<'a> Shown<'a> {
 impl<'a> Generation<'a> {
     fn read(text: &'a str) -> Self {
         let (anchor, rest) = split_anchor(text);
-        Self { anchor, rest }
+        let (handle, rest) = first(rest);
+        let (number, readiness) = match first(rest) {
+            (word, readiness) if word.starts_with(|letter: char| letter.is_ascii_digit()) => {
+                (word, readiness)
+            }
+            _ => ("", rest),
+        };
+        Self {
+            anchor,
+            handle,
+            number,
+            readiness,
+        }
+    }
+
+    /// Without its settle number.
+    pub(crate) const fn unnumbered(self) -> Self {
+        Self { number: "", ..self }
     }
 }
 
@@ -208,8 +241,8 @@ mod tests {
     const SHEET: &str = "(count 1 2 3 4 5 6 7 8 9)\n\
         (current unclaimed (7 none) 11 50 open)\n\
         (superseded (6 none))\n\
-        (installed (5 none) 60 (cold no-parent no-hash))\n\
-        (previous none)\n\
+        (installed (5 none) 60 8 (cold no-parent no-hash))\n\
+        (previous (4 none) 1 7 ready)\n\
         (wait 3 parked)\n\
         (wait 15 ended (4 none))\n";
 
@@ -222,10 +255,23 @@ mod tests {
         assert_eq!((shown.handle, shown.end), ("50", "open"));
         assert_eq!(shown.superseded, "(6 none)");
         assert_eq!(shown.installed.anchor, "(5 none)");
-        assert_eq!(shown.installed.rest, "60 (cold no-parent no-hash)");
-        assert_eq!(shown.previous.anchor, "");
+        assert_eq!(
+            (shown.installed.handle, shown.installed.number),
+            ("60", "8")
+        );
+        assert_eq!(shown.installed.readiness, "(cold no-parent no-hash)");
+        assert_eq!(shown.previous.anchor, "(4 none)");
         assert_eq!(shown.waiters[3], ("parked", ""));
         assert_eq!(shown.waiters[15], ("ended", "(4 none)"));
+    }
+
+    #[test]
+    fn a_sheet_without_numbers_is_taken_apart() {
+        let sheet = String::from_utf8(without_numbers(SHEET.as_bytes())).unwrap();
+        let [shown, numbered] = [Shown::read(&sheet), Shown::read(SHEET)];
+        assert!(shown.installed == numbered.installed.unnumbered());
+        assert!(shown.previous == numbered.previous.unnumbered());
+        assert!(Shown::read("(previous none)\n").previous == Generation::default());
     }
 
     #[test]
@@ -236,7 +282,7 @@ mod tests {
         };
         for (name, spoil) in Spoil::NAMES {
             let spoilt = spoil.spoil(SHEET, 0, &unshown);
-            let changed = SHEET.replace("(previous none)", "(previous (4 none) 1 ready)");
+            let changed = SHEET.replace("(previous (4 none) 1 7 ready)", "(previous none)");
             let spoilt_change = spoil.spoil(&changed, 0, &unshown);
             assert_ne!(spoilt, SHEET, "{name}");
             assert_eq!(spoilt == spoilt_change, spoil == Spoil::Previous, "{name}");

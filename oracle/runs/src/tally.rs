@@ -4,7 +4,7 @@ use harness::{Answer, Outcome, Refusal};
 use std::fmt::{self, Display, Formatter};
 
 /// Counts of answers by kind.
-#[derive(Debug, Default)]
+#[derive(Clone, Debug, Default)]
 pub struct Tally {
     counts: Vec<(&'static str, u64)>,
 }

@@ -1,11 +1,12 @@
-//! `check PROGRAM`: document 01's worked example, edges and traps.
+//! `check PROGRAM`: document 01's worked example, edges and traps, and Job 1's cases.
 
-use runs::cases::cases;
+use runs::cases::{cases, Case};
+use runs::options::WITHOUT_NUMBERS;
 use runs::Program;
 use std::env;
 use std::process::ExitCode;
 
-const USAGE: &str = "usage: check PROGRAM [ARGUMENT...]";
+const USAGE: &str = "usage: check [--without-numbers] PROGRAM [ARGUMENT...]";
 
 fn main() -> ExitCode {
     match run() {
@@ -20,9 +21,14 @@ fn main() -> ExitCode {
 
 /// Run every case and say how it went; the number of cases that failed.
 fn run() -> Result<usize, String> {
-    let program = Program::new(env::args().skip(1).collect())
-        .map_err(|problem| format!("{problem}; {USAGE}"))?;
-    let cases = cases();
+    let mut arguments = env::args().skip(1).peekable();
+    let without_numbers = arguments.next_if_eq(WITHOUT_NUMBERS).is_some();
+    let program =
+        Program::new(arguments.collect()).map_err(|problem| format!("{problem}; {USAGE}"))?;
+    let mut cases = cases();
+    if without_numbers {
+        cases = cases.into_iter().map(Case::without_numbers).collect();
+    }
     let mut failed = 0;
     for case in &cases {
         match case.fault(&program)? {

@@ -1,7 +1,7 @@
-//! `compare`: a program beside the published code, script by script, until the
-//! first difference.
+//! `compare`: a program beside the published code, or beside a second program, script by script,
+//! until the first difference.
 
-use runs::compare::{compare, Difference};
+use runs::compare::Difference;
 use runs::options::Comparison;
 use runs::progress::Progress;
 use runs::Tally;
@@ -9,7 +9,7 @@ use std::env;
 use std::process::ExitCode;
 
 const USAGE: &str = "usage: compare (--seeds FROM TO | --short | --changed) [--lines N] \
-    [--malformed IN_A_THOUSAND] [--count NINE NUMBERS] -- PROGRAM [ARGUMENT...]";
+    [--malformed IN_A_THOUSAND] [--count NINE NUMBERS] [--beside SECOND] -- PROGRAM [ARGUMENT...]";
 
 fn main() -> ExitCode {
     match run() {
@@ -45,7 +45,7 @@ fn run() -> Result<bool, String> {
     } = totals;
     if let Some((name, found)) = difference {
         println!("{name} differs at line {}; shrinking", found.line() + 1);
-        print!("{}", found.shrunk(&asked.program, asked.recipe.start)?);
+        print!("{}", found.shrunk(&asked.sides, asked.recipe.start)?);
         println!("{scripts} scripts, {lines} lines, 1 difference");
         return Ok(false);
     }
@@ -67,7 +67,7 @@ fn first_difference(
         progress.show(&place, totals.lines);
         totals.lines += case.script.len();
         totals.tally.add(case.answers.tally());
-        if let Some(found) = compare(&asked.program, case.script, case.answers)? {
+        if let Some(found) = asked.sides.compare(case.script, case.answers)? {
             return Ok(Some((case.name, found)));
         }
     }

@@ -1,7 +1,8 @@
-//! `faults MODEL`: how many lines the generator needs to find each fault that
-//! can be planted in the model.
+//! `faults MODEL`: how many lines the generator needs to find each fault that can be planted in the
+//! model, beside the published code or, where that has no settle numbers to differ in, beside the
+//! model without a fault.
 
-use runs::compare::compare;
+use runs::compare::Sides;
 use runs::{Case, Program, Recipe, Scripts};
 use std::env;
 use std::process::{Command, ExitCode};
@@ -36,10 +37,18 @@ fn run() -> Result<bool, String> {
     let mut found = 0;
     for fault in &faults {
         let program = Program::new(vec![model.clone(), "--fault".to_owned(), fault.clone()])?;
-        match lines_until_found(&program)? {
-            Some(lines) => {
+        let published = Sides {
+            program,
+            beside: None,
+        };
+        let second = Sides {
+            beside: Some(Program::new(vec![model.clone()])?),
+            ..published.clone()
+        };
+        match lines_until_found([published, second])? {
+            Some((lines, how)) => {
                 found += 1;
-                println!("{lines:>9}  {fault}");
+                println!("{lines:>9}  {fault}{how}");
             }
             None => println!("not found  {fault}"),
         }
@@ -56,8 +65,12 @@ fn names(model: &str) -> Result<Vec<String>, String> {
     Ok(text.lines().map(str::to_owned).collect())
 }
 
-/// The number of lines up to the first that differs, scripts before it with.
-fn lines_until_found(program: &Program) -> Result<Option<usize>, String> {
+/// What stands behind a fault by the side on which it was found.
+const HOW: [&str; 2] = ["", ", beside the model"];
+
+/// The number of lines up to the first that differs, scripts before it with, and how it was found:
+/// each script is tried on the first sides, then on the second.
+fn lines_until_found(sides: [Sides; 2]) -> Result<Option<(usize, &'static str)>, String> {
     let mut lines = 0;
     for seed in 1..=SEEDS {
         let recipe = Recipe {
@@ -68,7 +81,7 @@ fn lines_until_found(program: &Program) -> Result<Option<usize>, String> {
             },
             ..Recipe::default()
         };
-        let program = program.clone().starting_at(recipe.start);
+        let sides = sides.clone().map(|sides| sides.starting_at(recipe.start));
         for Case {
             script, answers, ..
         } in (Scripts::Seeds {
@@ -77,11 +90,12 @@ fn lines_until_found(program: &Program) -> Result<Option<usize>, String> {
         })
         .cases(recipe)
         {
-            let length = script.len();
-            if let Some(difference) = compare(&program, script, answers)? {
-                return Ok(Some(lines + difference.line() + 1));
+            for (sides, how) in sides.iter().zip(HOW) {
+                if let Some(difference) = sides.compare(script.clone(), answers.clone())? {
+                    return Ok(Some((lines + difference.line() + 1, how)));
+                }
             }
-            lines += length;
+            lines += script.len();
         }
     }
     Ok(None)

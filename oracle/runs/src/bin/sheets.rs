@@ -1,12 +1,14 @@
 //! `sheets`: searches a program's runs for equal sheets with unequal futures,
 //! and for unequal sheets that no probe separates.
 
+use runs::options::WITHOUT_NUMBERS;
 use runs::sheets::{Found, Search, Searched};
 use runs::{Program, Spoil};
 use std::env;
 use std::process::ExitCode;
 
-const USAGE: &str = "usage: sheets [--pairs N] [--seed N] [--spoil NAME] -- PROGRAM [ARGUMENT...]";
+const USAGE: &str = "usage: sheets [--pairs N] [--seed N] [--spoil NAME] [--without-numbers] \
+    -- PROGRAM [ARGUMENT...]";
 
 fn main() -> ExitCode {
     match run() {
@@ -79,12 +81,13 @@ fn show(found: Option<Found>) -> bool {
 }
 
 fn read(mut arguments: impl Iterator<Item = String>) -> Result<Search, String> {
-    let (mut pairs, mut seed, mut spoil) = (100_000, 1, None);
+    let (mut pairs, mut seed, mut spoil, mut settle_numbers) = (100_000, 1, None, true);
     while let Some(argument) = arguments.next() {
         match argument.as_str() {
             "--pairs" => pairs = number("--pairs", arguments.next())? as usize,
             "--seed" => seed = number("--seed", arguments.next())?,
             "--spoil" => spoil = Some(Spoil::named(&arguments.next().unwrap_or_default())?),
+            WITHOUT_NUMBERS => settle_numbers = false,
             "--" => break,
             _ => return Err(format!("{argument:?} is no option")),
         }
@@ -94,6 +97,7 @@ fn read(mut arguments: impl Iterator<Item = String>) -> Result<Search, String> {
         pairs,
         seed,
         spoil,
+        settle_numbers,
     })
 }
 
