@@ -24,7 +24,7 @@ mask_holds h a (Some b) e = by_test (h b)
     (λ t. rw t (false_from_ne_true (same_anchor b a) (λ q. true_false t (ap h (same_anchor_lem b a q) ∙ e))))
     (λ f. rw f refl)
 
-mask_at : (h : ReadAnchor → Bool) (s : Option ReadAnchor) (x : ReadAnchor) → mask_by h s ≡ Some x → (s ≡ Some x) × (h x ≡ false)
+pub mask_at : (h : ReadAnchor → Bool) (s : Option ReadAnchor) (x : ReadAnchor) → mask_by h s ≡ Some x → (s ≡ Some x) × (h x ≡ false)
 unfolding mask_by
 mask_at h None x e = nothing_at e
 mask_at h (Some b) x e = by_test (h b)

@@ -29,7 +29,7 @@ use Rattle.alike.proofs.Masks.{mask_holds, mask_same}
 use Rattle.alike.specs.Canon.{canon, masked, shown_head, shown_life, shown_superseded, shown_waiter, shown_waiters}
 use Rattle.alike.specs.Invariant.{Ordered, WhenSettled}
 use Rattle.alike.specs.Runs.{answers}
-use Rattle.alike.specs.Statements.{ShowsEnough}
+use Rattle.alike.specs.Statements.{ShowsEnough, ShowsOn}
 
 -- Masked is just where no answer tells.
 
@@ -135,3 +135,9 @@ alike_shown (Alike.alike {c₁ = c₁} {s₁ = s₁} {s₂ = s₂} {i = i} {p = 
     let h = same_shown w t.delivered e in
     let s = same_superseded c₁ p s₁ s₂ m ∙ same_masked w p s₂ in
     λ j. driver_of (h j) (s j) i p (seq_of t.delivered) e t (shown_waiters ws)
+
+pub shows_on : ShowsOn
+shows_on d₁ d₂ v₁ v₂ q c =
+    alike_shown ((both_step (alike_canon d₁ v₁.ordered) v₁.ordered c).driver)
+    ∙ ap (λ d. canon (step d c).driver) q
+    ∙ sym (alike_shown ((both_step (alike_canon d₂ v₂.ordered) v₂.ordered c).driver))

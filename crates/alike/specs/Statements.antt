@@ -32,6 +32,11 @@ CanonTwice = (d : Driver) → canon (canon d) ≡ canon d
 abbrev pub ShowsEnough : Type 0
 ShowsEnough = (d₁ d₂ : Driver) → Invariant d₁ → Invariant d₂ → canon d₁ ≡ canon d₂ → (cs : List Call) → answers d₁ cs ≡ answers d₂ cs
 
+-- After any call they show the same again.
+abbrev pub ShowsOn : Type 0
+ShowsOn = (d₁ d₂ : Driver) → Invariant d₁ → Invariant d₂ → canon d₁ ≡ canon d₂ → (c : Call)
+    → canon (step d₁ c).driver ≡ canon (step d₂ c).driver
+
 -- the same answers to every list of calls that lines can write
 abbrev pub SameAnswers : Driver → Driver → Type 0
 SameAnswers d₁ d₂ = (cs : List Call) → AllWritable cs → answers d₁ cs ≡ answers d₂ cs

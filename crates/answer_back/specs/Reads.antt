@@ -2,8 +2,8 @@
 use Rattle.std.specs.Prelude.{ℕ, List, eqb, cond}
 use Rattle.head_values.specs.Words.{Word}
 use Rattle.head_count.specs.Counters.{epoch_of, seq_of}
-use Rattle.script_back.specs.Counters.{read_stats}
-use Rattle.script_back.specs.Outcomes.{read_end, read_link, read_outcome, read_readiness, read_report, read_settle_number, read_source}
+use Rattle.script_back.specs.Outcomes.{read_end, read_link, read_readiness, read_settle_number, read_source}
+use Rattle.sheet_read.specs.Values.{read_outcome, read_report, read_stats}
 use Rattle.value_text.specs.Reads.{got, map, read_anchor, read_slot, spaced_number, then}
 use Rattle.value_text.specs.Words.{word_text}
 use Rattle.text.specs.Ascii.{ascii}

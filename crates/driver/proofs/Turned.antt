@@ -27,6 +27,7 @@ unfolding case_of line_said
 said_back (LineAnswer.Said a) = ap (λ (x : Answer). LineAnswer.Said x) (answer_case a)
 said_back LineAnswer.NoCall = refl
 said_back LineAnswer.SheetTooShort = refl
+said_back LineAnswer.SheetNotTaken = refl
 said_back (LineAnswer.Sheet n) = refl
 
 pub line_exact : {a b : LineAnswer} → line_said a ≡ line_said b → a ≡ b
@@ -38,6 +39,7 @@ unfolding line_text line_said said_line answer_line answer_text said_text word_t
 line_says (LineAnswer.Said a) = refl
 line_says LineAnswer.NoCall = refl
 line_says LineAnswer.SheetTooShort = refl
+line_says LineAnswer.SheetNotTaken = refl
 line_says (LineAnswer.Sheet n) = refl
 
 module _ {d : Driver} {line old new : List ℕ} {r : Turn} where

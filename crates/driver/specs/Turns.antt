@@ -49,6 +49,7 @@ unfoldable pub line_said : LineAnswer → LineSaid
 line_said (LineAnswer.Said a) = LineSaid.answer (within LineAnswer.Said (said a))
 line_said LineAnswer.NoCall = LineSaid.answer (turned_away LineAnswer.NoCall 1 [])
 line_said LineAnswer.SheetTooShort = LineSaid.answer (turned_away LineAnswer.SheetTooShort 4 [])
+line_said LineAnswer.SheetNotTaken = LineSaid.answer (turned_away LineAnswer.SheetNotTaken 5 [])
 line_said (LineAnswer.Sheet n) = LineSaid.sheet n
 
 -- the line that is printed of what is said

@@ -44,7 +44,7 @@ pub(crate) fn new_head(anchor_installed: bool, delivery: HeadDelivery, cold: u64
 }
 
 #[tactic(auto, unfolding(crate::specs::Apply::settled_readiness))]
-pub(crate) fn settled_readiness(outcome: CarryOutcome) -> HeadReadiness
+pub fn settled_readiness(outcome: CarryOutcome) -> HeadReadiness
     ensures { result ≡ settled_readiness outcome }
 {
     match outcome {

@@ -22,7 +22,7 @@ pub struct Generation {
 
 // From head_lifecycle.rs.
 
-#[derive(Clone, Copy)]
+#[derive(Clone, Copy, PartialEq, Eq)]
 pub enum HeadCold {
     Unprepared,
     Superseded,
@@ -32,7 +32,7 @@ pub enum HeadCold {
 }
 
 // Document 01 asks for this form: the cold case holds the reason.
-#[derive(Clone, Copy)]
+#[derive(Clone, Copy, PartialEq, Eq)]
 pub enum HeadReadiness {
     Ready,
     Cold(HeadCold),

@@ -11,7 +11,7 @@ pub mod storage_memo;
 // From bal_prefetch.rs.
 
 // The Rust's `Option<BalSkip>`; a number stands for the text of an error. One enum, since document 01 lists none among the skips.
-#[derive(Clone, Copy)]
+#[derive(Clone, Copy, PartialEq, Eq)]
 pub enum BalSkip {
     Nothing,
     NoHash,
@@ -22,7 +22,7 @@ pub enum BalSkip {
 // From read_hub.rs.
 
 // The Rust's `Option<CarryRefusal>`: linked, or what is wrong with the link. One enum, since document 01 lists the five words in a row.
-#[derive(Clone, Copy)]
+#[derive(Clone, Copy, PartialEq, Eq)]
 pub enum Link {
     Linked,
     NoParent,

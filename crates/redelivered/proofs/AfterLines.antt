@@ -24,7 +24,6 @@ use Rattle.head_ready.specs.declared.HeadView.{HeadView}
 use Rattle.head_ready.specs.declared.Source.{Source}
 use Rattle.head_current.specs.Heads.{preparing_at}
 use Rattle.head_current.specs.declared.CurrentHead.{CurrentHead}
-use Rattle.head_driver.specs.New.{new}
 use Rattle.head_driver.specs.declared.Answer.{Answer}
 use Rattle.head_driver.specs.declared.Driver.{Driver}
 use Rattle.head_waits.specs.Parts.{waiter_at}
@@ -33,7 +32,6 @@ use Rattle.head_waits.specs.Waits.{abandoned_view, readiness_by_wait, resume, re
 use Rattle.head_call.specs.declared.Call.{Call}
 use Rattle.head_step.specs.Steps.{step}
 use Rattle.alike.proofs.Alike.{unsettled_at}
-use Rattle.alike.proofs.Kept.{holds_of_new}
 use Rattle.alike.proofs.Poses.{previous_elsewhere}
 use Rattle.alike.proofs.Replies.{view_previous}
 use Rattle.alike.proofs.Tests.{at_most_15, same_anchor_lem, same_holds, true_false}
@@ -42,7 +40,9 @@ use Rattle.script_call.specs.Calls.{call}
 use Rattle.script_call.specs.declared.LineCall.{LineCall}
 use Rattle.script_answer.specs.declared.LineAnswer.{LineAnswer}
 use Rattle.driver.specs.Turns.{made, turn_of}
+use Rattle.rules.proofs.Brought.{brought_keep}
 use Rattle.rules.proofs.Lines.{lines_keep}
+use Rattle.rules.specs.Brought.{Brought}
 use Rattle.rules.specs.Runs.{Entry, after, turn_at}
 use Rattle.redelivered.proofs.Redelivered.{installed_read}
 use Rattle.redelivered.proofs.Applied.{apply_installs, settled_as}
@@ -160,46 +160,43 @@ unfolding turn_of made
 settling_installs d settling ticket list handle carried report o q told =
     rw q (apply_installs d ticket handle o list carried report (said_of (rw q at told)))
 
-module _ (first more : List Entry) (next asked : Entry) where
-  -- the driver that the list brings, with the line and those after it
-  brought : Invariant (driver_after first next more)
+module _ (d : Driver) (b : Brought d) (more : List Entry) (next asked : Entry) where
+  -- of the driver after the line and those after it
+  brought : Invariant (driver_after d next more)
   unfolding after
-  brought = lines_keep (after new first) (next ∷ more) (lines_keep new first holds_of_new)
+  brought = lines_keep d (next ∷ more) (brought_keep d b)
 
-  keeps_both : NoneSettles (turn_at (after new first) next).driver more
-      → generations (driver_after first next more).life ≡ generations (turn_at (after new first) next).driver.life
-  keeps_both n = lines_keep_both (turn_at (after new first) next).driver more n
+  keeps_both : NoneSettles (turn_at d next).driver more
+      → generations (driver_after d next more).life ≡ generations (turn_at d next).driver.life
+  keeps_both n = lines_keep_both (turn_at d next).driver more n
 
 pub shown_until_next_settle : ShownUntilNextSettle
-shown_until_next_settle first more settling asked ticket list handle carried report o q told n asks =
-    let both = keeps_both first more settling asked n
-    ∙ settling_installs (after new first) settling ticket list handle carried report o q told in
-    installed_shown (driver_after first settling more) (brought first more settling asked)
+shown_until_next_settle d b more settling asked ticket list handle carried report o q told n asks =
+    let both = keeps_both d b more settling asked n
+    ∙ settling_installs d settling ticket list handle carried report o q told in
+    installed_shown (driver_after d settling more) (brought d b more settling asked)
     (record { anchor = ticket.anchor; handle = handle; seq = ticket.seq; readiness = settled_readiness o }) asked asks
     (ap (λ (x : Option Generation × Option Generation). x.0) both)
 
 pub shown_after_lines : ShownAfterLines
 unfolding step
-shown_after_lines first more again asked g p cold e q n asks =
-    let d = after new first in
-    let both = keeps_both first more again asked n
+shown_after_lines d b more again asked g p cold e q n asks =
+    let both = keeps_both d b more again asked n
     ∙ again_keeps d again (Call.Deliver g.anchor p cold) q (delivery_keeps d g.anchor p cold) in
-    installed_shown (driver_after first again more) (brought first more again asked) g asked asks
+    installed_shown (driver_after d again more) (brought d b more again asked) g asked asks
     (ap (λ (x : Option Generation × Option Generation). x.0) both ∙ e)
 
 pub previous_as_settled : PreviousAsSettled
 unfolding previous_after
-previous_as_settled first more carrying asked g ticket list handle carried report count i q told n away asks =
-    let d = after new first in
-    let both = keeps_both first more carrying asked n
+previous_as_settled d b more carrying asked g ticket list handle carried report count i q told n away asks =
+    let both = keeps_both d b more carrying asked n
     ∙ settling_installs d carrying ticket list handle carried report (CarryOutcome.Carried count) q told in
-    previous_shown (driver_after first carrying more) (brought first more carrying asked) g asked asks
+    previous_shown (driver_after d carrying more) (brought d b more carrying asked) g asked asks
     (ap (λ (x : Option Generation × Option Generation). x.1) both ∙ i) away
 
 pub abandoned_as_settled : AbandonedAsSettled
-abandoned_as_settled es asked g n spare cold h w q =
-    let d = after new es in
-    let v = lines_keep new es holds_of_new in (
+abandoned_as_settled d b asked g n spare cold h w q =
+    let v = brought_keep d b in (
       (λ e. abandoned_shown d g.anchor (as_settled g) (λ s. installed_read d.life g s e) cold asked n spare h w q),
       (λ e away.
           abandoned_shown d g.anchor (view_of (Source.Previous g.seq) g.handle g.readiness)

@@ -16,7 +16,6 @@ use Rattle.head_ready.specs.declared.Source.{Source}
 use Rattle.head_current.specs.declared.HeadTicket.{HeadTicket}
 use Rattle.head_call.specs.declared.Call.{Call}
 use Rattle.head_life.specs.Apply.{settled_readiness}
-use Rattle.head_driver.specs.New.{new}
 use Rattle.head_driver.specs.declared.Answer.{Answer}
 use Rattle.head_driver.specs.declared.Driver.{Driver}
 use Rattle.head_waits.specs.Parts.{waiter_at}
@@ -25,6 +24,7 @@ use Rattle.script_call.specs.Calls.{call}
 use Rattle.script_call.specs.declared.LineCall.{LineCall}
 use Rattle.script_answer.specs.declared.LineAnswer.{LineAnswer}
 use Rattle.alike.specs.Invariant.{WhenUnsettled}
+use Rattle.rules.specs.Brought.{Brought}
 use Rattle.rules.specs.Runs.{Entry, after, turn_at}
 
 -- as it settled: from the installed generation, the number under which it settled, its handle, its readiness
@@ -59,54 +59,56 @@ pub data AsksFor (d : Driver) (a : ReadAnchor) (line : List ℕ) : Type 0 where
 abbrev pub abandoned_at : Source → Generation → HeadView
 abandoned_at source g = view_of source g.handle (HeadReadiness.Cold HeadCold.Abandoned)
 
--- the driver that a list of lines brings from a new one, then a line, then more lines
-abbrev pub driver_after : List Entry → Entry → List Entry → Driver
-driver_after first next more = after (turn_at (after new first) next).driver more
+-- the driver after a line, and after more lines
+abbrev pub driver_after : Driver → Entry → List Entry → Driver
+driver_after d next more = after (turn_at d next).driver more
 
--- In every driver that lines bring from a new one, what an apply settled is shown with the number of that apply's ticket, its
+-- In every driver that lines and rebuilds bring about, what an apply settled is shown with the number of that apply's ticket, its
 -- handle and the readiness of its outcome, after any further lines among which no apply settles, deliveries of the same
 -- block among them: by a snapshot, by a wait on a free waiter, and by a resume of one whose wait there ended.
 abbrev pub ShownUntilNextSettle : Type 0
-ShownUntilNextSettle = (first more : List Entry) (settling asked : Entry) (ticket : HeadTicket) (list : PreparedBal) (handle carried report : ℕ) (o : CarryOutcome)
+ShownUntilNextSettle = (d : Driver) → Brought d
+    → (more : List Entry) (settling asked : Entry) (ticket : HeadTicket) (list : PreparedBal) (handle carried report : ℕ) (o : CarryOutcome)
     → call settling.line ≡ Some (LineCall.Make (Call.Apply ticket list handle carried report))
-    → (turn_at (after new first) settling).answer ≡ LineAnswer.Said (Answer.Outcome (HeadOutcome.Settled o))
-    → NoneSettles (turn_at (after new first) settling).driver more
-    → AsksFor (driver_after first settling more) ticket.anchor asked.line
-    → (turn_at (driver_after first settling more) asked).answer
+    → (turn_at d settling).answer ≡ LineAnswer.Said (Answer.Outcome (HeadOutcome.Settled o))
+    → NoneSettles (turn_at d settling).driver more
+    → AsksFor (driver_after d settling more) ticket.anchor asked.line
+    → (turn_at (driver_after d settling more) asked).answer
     ≡ LineAnswer.Said (Answer.View (view_of (Source.Installed ticket.seq) handle (settled_readiness o)))
 
--- In every driver that lines bring from a new one, a block that is installed and is delivered again is shown as it settled, directly after that
--- delivery and after any further lines among which no apply settles: to whatever line asks.
+-- In every driver that lines and rebuilds bring about, a block that is installed and is delivered again is shown as it settled, directly
+-- after that delivery and after any further lines among which no apply settles: to whatever line asks.
 abbrev pub ShownAfterLines : Type 0
-ShownAfterLines = (first more : List Entry) (again asked : Entry) (g : Generation) (p : Hash) (cold : ℕ)
-    → (after new first).life.installed ≡ Some g
+ShownAfterLines = (d : Driver) → Brought d → (more : List Entry) (again asked : Entry) (g : Generation) (p : Hash) (cold : ℕ)
+    → d.life.installed ≡ Some g
     → call again.line ≡ Some (LineCall.Make (Call.Deliver g.anchor p cold))
-    → NoneSettles (turn_at (after new first) again).driver more
-    → AsksFor (driver_after first again more) g.anchor asked.line
-    → (turn_at (driver_after first again more) asked).answer ≡ LineAnswer.Said (Answer.View (as_settled g))
+    → NoneSettles (turn_at d again).driver more
+    → AsksFor (driver_after d again more) g.anchor asked.line
+    → (turn_at (driver_after d again more) asked).answer ≡ LineAnswer.Said (Answer.View (as_settled g))
 
 -- "Carried makes the installed generation the previous one, readiness included"; Job 1, with its number: in every driver that
--- lines bring from a new one, what was installed when an apply carried is shown from previous with the number under which it
+-- lines and rebuilds bring about, what was installed when an apply carried is shown from previous with the number under which it
 -- settled, after any further lines among which no apply settles, unless the block was delivered anew and is not settled yet.
 abbrev pub PreviousAsSettled : Type 0
-PreviousAsSettled = (first more : List Entry) (carrying asked : Entry) (g : Generation) (ticket : HeadTicket) (list : PreparedBal)
+PreviousAsSettled = (d : Driver) → Brought d
+    → (more : List Entry) (carrying asked : Entry) (g : Generation) (ticket : HeadTicket) (list : PreparedBal)
     (handle carried report count : ℕ)
-    → (after new first).life.installed ≡ Some g
+    → d.life.installed ≡ Some g
     → call carrying.line ≡ Some (LineCall.Make (Call.Apply ticket list handle carried report))
-    → (turn_at (after new first) carrying).answer ≡ LineAnswer.Said (Answer.Outcome (HeadOutcome.Settled (CarryOutcome.Carried count)))
-    → NoneSettles (turn_at (after new first) carrying).driver more
-    → WhenUnsettled (driver_after first carrying more).life.current (λ u. ¬ (u.delivery.anchor ≡ g.anchor))
-    → AsksFor (driver_after first carrying more) g.anchor asked.line
-    → (turn_at (driver_after first carrying more) asked).answer
+    → (turn_at d carrying).answer ≡ LineAnswer.Said (Answer.Outcome (HeadOutcome.Settled (CarryOutcome.Carried count)))
+    → NoneSettles (turn_at d carrying).driver more
+    → WhenUnsettled (driver_after d carrying more).life.current (λ u. ¬ (u.delivery.anchor ≡ g.anchor))
+    → AsksFor (driver_after d carrying more) g.anchor asked.line
+    → (turn_at (driver_after d carrying more) asked).answer
     ≡ LineAnswer.Said (Answer.View (view_of (Source.Previous g.seq) g.handle g.readiness))
 
 -- Document 01, "The sixteen waiters": "After an abandonment the answer is the snapshot with reason `abandoned`", and "if that
 -- snapshot was ready, the spare handle is given"; so a block that settled cold is shown from its source, with its number.
 abbrev pub AbandonedAsSettled : Type 0
-AbandonedAsSettled = (es : List Entry) (asked : Entry) (g : Generation) (n spare : ℕ)
-    → is_ready g.readiness ≡ false → n ≤ 15 → waiter_at (after new es).waiters n ≡ Waiter.Abandoned g.anchor
+AbandonedAsSettled = (d : Driver) → Brought d → (asked : Entry) (g : Generation) (n spare : ℕ)
+    → is_ready g.readiness ≡ false → n ≤ 15 → waiter_at d.waiters n ≡ Waiter.Abandoned g.anchor
     → call asked.line ≡ Some (LineCall.Make (Call.Resume n spare))
-    → ((after new es).life.installed ≡ Some g
-    → (turn_at (after new es) asked).answer ≡ LineAnswer.Said (Answer.View (abandoned_at (Source.Installed g.seq) g)))
-    × ((after new es).life.previous ≡ Some g → WhenUnsettled (after new es).life.current (λ u. ¬ (u.delivery.anchor ≡ g.anchor))
-    → (turn_at (after new es) asked).answer ≡ LineAnswer.Said (Answer.View (abandoned_at (Source.Previous g.seq) g)))
+    → (d.life.installed ≡ Some g
+    → (turn_at d asked).answer ≡ LineAnswer.Said (Answer.View (abandoned_at (Source.Installed g.seq) g)))
+    × (d.life.previous ≡ Some g → WhenUnsettled d.life.current (λ u. ¬ (u.delivery.anchor ≡ g.anchor))
+    → (turn_at d asked).answer ≡ LineAnswer.Said (Answer.View (abandoned_at (Source.Previous g.seq) g)))

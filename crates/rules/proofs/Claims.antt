@@ -11,17 +11,15 @@ use Rattle.head_current.specs.declared.CurrentHead.{CurrentHead}
 use Rattle.head_current.specs.declared.HeadDelivery.{HeadDelivery}
 use Rattle.head_current.specs.declared.HeadTicket.{HeadTicket}
 use Rattle.head_call.specs.declared.Call.{Call}
-use Rattle.head_driver.specs.New.{new}
 use Rattle.head_driver.specs.declared.Driver.{Driver}
-use Rattle.alike.proofs.Kept.{holds_of_new}
 use Rattle.alike.specs.Invariant.{Invariant}
 use Rattle.script_call.specs.Calls.{call}
 use Rattle.script_call.specs.declared.LineCall.{LineCall}
 use Rattle.rules.specs.Refusals.{FirstThatApplies, HeadInstalled, IsSettled, Refusal, Test, already_settled, in_flight, later_tests, no_call, superseded}
-use Rattle.rules.specs.Runs.{Entry, after, turn_at}
+use Rattle.rules.specs.Runs.{Entry, turn_at}
 use Rattle.rules.specs.Said.{line_refusal}
 use Rattle.rules.specs.TurnedAway.{ClaimsInstalled}
-use Rattle.rules.proofs.Lines.{lines_keep}
+use Rattle.rules.proofs.Brought.{brought_keep}
 use Rattle.rules.proofs.TurnedAway.{is_call, settled_installed, turned_away}
 
 -- a refusal's number, and 0 where there is none
@@ -70,4 +68,4 @@ claim_13 d v e ticket q =
     )
 
 pub claims_installed : ClaimsInstalled
-claims_installed es e ticket q = claim_13 (after new es) (lines_keep new es holds_of_new) e ticket q
+claims_installed d b e ticket q = claim_13 d (brought_keep d b) e ticket q

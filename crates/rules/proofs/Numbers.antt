@@ -27,7 +27,6 @@ use Rattle.head_life.specs.Claim.{claim_life}
 use Rattle.head_life.specs.Views.{current_view, generation_view, provisional_view, spare_view, view}
 use Rattle.head_life.specs.declared.ApplyPlan.{ApplyPlan}
 use Rattle.head_life.specs.declared.HeadLifecycle.{HeadLifecycle}
-use Rattle.head_driver.specs.New.{new}
 use Rattle.head_driver.specs.declared.Answer.{Answer}
 use Rattle.head_driver.specs.declared.Driver.{Driver}
 use Rattle.head_driver.specs.declared.Reply.{Reply}
@@ -41,7 +40,7 @@ use Rattle.head_waits.specs.Waits.{abandoned_view, resume, resume_as, shown_by_w
 use Rattle.head_asks.specs.Asks.{completion, heads, last_report, link, stats}
 use Rattle.head_call.specs.declared.Call.{Call}
 use Rattle.head_step.specs.Steps.{step}
-use Rattle.alike.proofs.Kept.{holds_of_new, seq_is_delivered}
+use Rattle.alike.proofs.Kept.{seq_is_delivered}
 use Rattle.alike.specs.Canon.{canon, shown_life}
 use Rattle.alike.specs.Invariant.{Invariant, NumberAtMost, WhenGeneration}
 use Rattle.script_answer.specs.declared.LineAnswer.{LineAnswer}
@@ -49,11 +48,10 @@ use Rattle.script_call.specs.Calls.{call}
 use Rattle.script_call.specs.declared.LineCall.{LineCall}
 use Rattle.driver.specs.Turns.{made, sheet_answer, turn_of}
 use Rattle.sheet_back.proofs.Sheets.{sheet_back}
-use Rattle.sheet_back.specs.Reads.{read_sheet}
+use Rattle.sheet_read.specs.Reads.{read_sheet}
 use Rattle.rules.proofs.LineFeeds.{sheet_is_text}
-use Rattle.rules.proofs.Lines.{lines_keep}
+use Rattle.rules.proofs.Brought.{brought_keep}
 use Rattle.rules.specs.Numbers.{NumbersAtMost, NumbersNeverExceed, SheetNeverExceeds, ViewsNeverExceed}
-use Rattle.rules.specs.Runs.{after}
 
 -- ---- a driver and its sheet
 
@@ -64,19 +62,18 @@ at_most d v = record {
 }
 
 pub numbers_never_exceed : NumbersNeverExceed
-numbers_never_exceed es = at_most (after new es) (lines_keep new es holds_of_new)
+numbers_never_exceed d b = at_most d (brought_keep d b)
 
 shown_at_most : (d : Driver) → NumbersAtMost d → NumbersAtMost (canon d)
 unfolding canon shown_life
 shown_at_most d n = record { installed = n.installed; previous = n.previous }
 
 pub sheet_never_exceeds : SheetNeverExceeds
-sheet_never_exceeds es buffer h =
-    let d = after new es in (
-      canon d,
-      ap read_sheet (sheet_is_text d buffer h) ∙ sheet_back d (lines_keep new es holds_of_new),
-      shown_at_most d (numbers_never_exceed es),
-    )
+sheet_never_exceeds d b buffer h = (
+  canon d,
+  ap read_sheet (sheet_is_text d buffer h) ∙ sheet_back d (brought_keep d b),
+  shown_at_most d (numbers_never_exceed d b),
+)
 
 -- ---- views
 
@@ -109,6 +106,7 @@ module _ (n : ℕ) where
   LineAnswers (LineAnswer.Said a) = Answers a
   LineAnswers LineAnswer.NoCall = Unit {0}
   LineAnswers LineAnswer.SheetTooShort = Unit {0}
+  LineAnswers LineAnswer.SheetNotTaken = Unit {0}
   LineAnswers (LineAnswer.Sheet k) = Unit {0}
 
   abbrev Replied : Reply → Type 0
@@ -205,7 +203,6 @@ module _ (n : ℕ) where
     turn_shows (Some (LineCall.Make c)) buffer = call_shows c
 
 pub views_never_exceed : ViewsNeverExceed
-views_never_exceed es asked v e =
-    let d = after new es in
-    let n = numbers_never_exceed es in
+views_never_exceed d b asked v e =
+    let n = numbers_never_exceed d b in
     subst (LineAnswers d.life.stats.delivered) e (turn_shows d.life.stats.delivered d n.installed n.previous (call asked.line) asked.buffer)

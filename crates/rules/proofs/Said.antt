@@ -59,4 +59,5 @@ unfolding line_text refusal_line names_on decimal decimal_on
 line_says (LineAnswer.Said a) = rw (line_form a) (said_says a)
 line_says LineAnswer.NoCall = refl
 line_says LineAnswer.SheetTooShort = refl
+line_says LineAnswer.SheetNotTaken = refl
 line_says (LineAnswer.Sheet n) = λ rest. differ 0 _ _ (λ e. omega (arith, e))

@@ -36,7 +36,7 @@ use Rattle.rules.proofs.Tried.{Leaves, step_met}
 
 -- ---- one refusal at most is the first
 
-one_first : (ts : List Test) (r s : Refusal) → FirstThatApplies ts r → FirstThatApplies ts s → r ≡ s
+pub one_first : (ts : List Test) (r s : Refusal) → FirstThatApplies ts r → FirstThatApplies ts s → r ≡ s
 one_first [] r s p q = p ∙ sym q
 one_first (t ∷ ts) r s (inl p) (inl q) = p.1 ∙ sym q.1
 one_first (t ∷ ts) r s (inl p) (inr q) = absurd (q.0 p.0)

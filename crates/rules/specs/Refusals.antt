@@ -1,4 +1,5 @@
--- Document 01, "Turned away by the input", "Turned away by the state": each condition in its words, which call tests which, and what a refusal changes.
+-- Document 01, "Turned away by the input", "Turned away by the state", and the numbers of document 02's jobs: each condition in its words,
+-- which call tests which, and what a refusal changes.
 use Rattle.head_ready.specs.declared.Generation.{Generation}
 use Rattle.head_current.specs.declared.HeadDelivery.{HeadDelivery}
 use Rattle.std.specs.Prelude.{ℕ, ◌<◌, Bool, true, false, List, [], ◌∷◌, ◌↔◌, ◌⊎◌, ◌≡◌, eqb, length, Option, Some, None, cond}
@@ -9,6 +10,7 @@ use Rattle.head_waits.specs.Parts.{waiter_at}
 use Rattle.script_call.specs.Calls.{call}
 use Rattle.head_call.specs.Ranges.{Writable}
 use Rattle.script_call.specs.Texts.{call_text}
+use Rattle.rebuild.specs.Rebuilds.{Taken}
 use Rattle.text.specs.Ascii.{ascii}
 use Rattle.head_values.specs.declared.BalSkip.{BalSkip}
 use Rattle.head_values.specs.declared.PreparedBal.{PreparedBal}
@@ -48,6 +50,11 @@ no_waiter n = test (15 < n) 3 []
 abbrev pub too_short : List ℕ → Test
 too_short buffer = test (length buffer < 4096) 4 []
 
+-- Document 02, Job 2: "5 for bytes not taken", those to rebuild a driver from: there is no driver whose sheet form they are and that meets
+-- the rules
+abbrev pub not_taken : List ℕ → Test
+not_taken bytes = test ((x : Driver) → ¬ Taken bytes x) 5 []
+
 -- ---- turned away by the state
 
 -- 11 superseded: no current head (names the ticket's anchor), or ticket's anchor or seq is not the current head's (names the current anchor)
@@ -82,7 +89,8 @@ IsSettled (CurrentHead.Settled s) = Unit {0}
 abbrev pub already_installed : Option Generation → Option HeadDelivery → Test
 already_installed installed head = test (HeadInstalled installed head) 13 []
 
--- the same where a claim asks: a settled head is installed in every driver that lines bring from a new one (`ClaimsInstalled`), and where it is not, a claim is refused so all the same
+-- the same where a claim asks: a settled head is installed in every driver that lines and rebuilds bring about (`ClaimsInstalled`), and
+-- where it is not, a claim is refused so all the same
 abbrev pub already_settled : Option Generation → CurrentHead → Test
 already_settled installed c = test (HeadInstalled installed (delivery c) ⊎ IsSettled c) 13 []
 
@@ -120,6 +128,10 @@ abbrev pub later_tests : Driver → Option LineCall → List ℕ → List Test
 later_tests d None buffer = []
 later_tests d (Some LineCall.Sheet) buffer = too_short buffer ∷ []
 later_tests d (Some (LineCall.Make c)) buffer = call_tests d c
+
+-- bytes to rebuild a driver from are tested for 5, and for nothing else
+abbrev pub rebuild_tests : List ℕ → List Test
+rebuild_tests bytes = not_taken bytes ∷ []
 
 -- every line is first tested for 1
 abbrev pub tests : Driver → List ℕ → List ℕ → List Test

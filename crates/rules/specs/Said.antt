@@ -40,6 +40,7 @@ abbrev pub line_refusal : LineAnswer → Refusal
 line_refusal (LineAnswer.Said a) = answer_refusal a
 line_refusal LineAnswer.NoCall = Refusal.refused 1 []
 line_refusal LineAnswer.SheetTooShort = Refusal.refused 4 []
+line_refusal LineAnswer.SheetNotTaken = Refusal.refused 5 []
 line_refusal (LineAnswer.Sheet n) = Refusal.accepted
 
 -- ---- their lines

@@ -21,6 +21,7 @@ unfoldable pub wrote_of : LineAnswer → List ℕ → List ℕ
 wrote_of (LineAnswer.Said a) bytes = []
 wrote_of LineAnswer.NoCall bytes = []
 wrote_of LineAnswer.SheetTooShort bytes = []
+wrote_of LineAnswer.SheetNotTaken bytes = []
 wrote_of (LineAnswer.Sheet n) bytes = take n bytes
 
 -- what `(sheet)` writes into a buffer, up to its last line feed

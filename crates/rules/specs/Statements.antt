@@ -40,7 +40,8 @@ SameAnswers d₁ d₂ = (lines : List Entry) → Further lines → answers d₁ 
 abbrev pub SheetIsText : Type 0
 SheetIsText = (d : Driver) (buffer : List ℕ) → 4096 ≤ length buffer → sheet_into buffer d ≡ sheet_text d
 
--- Every line keeps the invariant, refused ones and `(sheet)` too, whatever its buffer; so every driver that lines bring from a new one has it.
+-- Every line keeps the invariant, refused ones and `(sheet)` too, whatever its buffer; so every driver that lines bring from a new one has
+-- it (of rebuilds too: `BroughtKeep`).
 abbrev pub LinesKeep : Type 0
 LinesKeep = (d : Driver) (es : List Entry) → Invariant d → Invariant (after d es)
 

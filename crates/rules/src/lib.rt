@@ -1,3 +1,3 @@
-// The rules that the customer signs for, over lines: the sheet rule, and which lines are turned away.
+// The rules that the customer signs for, over lines and rebuilds: the sheet rule, which lines and sheets are turned away, that a box is put back.
 // Theorems only. Knows nothing of code, nor of reads and writes.
 #![tactic(auto)]

@@ -59,16 +59,17 @@ record Holds (s : Reading) (line : List ℕ) : Type 0 where
   sound : Sound s.kept
   front : line_so_far s.kept ≡ take 513 line
 
-whole : Reading → List ℕ → List ℕ
+-- what an input prints from where a reading stands, its end too
+unfoldable pub whole : Reading → List ℕ → List ℕ
 whole s input = all_prints s input ++ last_prints (all_taken s input)
 
 holds_ended : (s : Reading) (line : List ℕ) → Holds s line → Holds (line_ends s) []
 unfolding line_ends line_so_far
 holds_ended s line h = record { sound = record { room = h.sound.room; few = omega arith }; front = refl }
 
-holds_new : (buffer : List ℕ) → 513 ≤ length buffer → Holds (reading new buffer 0) []
+holds_none : (d : Driver) (buffer : List ℕ) → 513 ≤ length buffer → Holds (reading d buffer 0) []
 unfolding line_so_far
-holds_new buffer room = record { sound = record { room = room; few = omega arith }; front = refl }
+holds_none d buffer room = record { sound = record { room = room; few = omega arith }; front = refl }
 
 holds_kept : (s : Reading) (line : List ℕ) (b : ℕ) → Holds s line → Holds (record { driver = s.driver; kept = keep_byte s.kept b }) (line ++ (b ∷ []))
 unfolding keep_all
@@ -123,6 +124,22 @@ by_lines (b ∷ input) s line h = whole_cons s b input ∙ go (eqb b 10) refl (b
         ∙ line_answered s line input (ap call h.front ∙ front_decides line)
     go false e more = at_other s b input e ∙ more (record { driver = s.driver; kept = keep_byte s.kept b }) (line ++ (b ∷ [])) (holds_kept s line b h)
 
+-- so the bytes of an input print what its lines are answered with, whatever the driver
+pub whole_answered : (d : Driver) (buffer : List ℕ) → 513 ≤ length buffer → (input : List ℕ)
+    → whole (reading d buffer 0) input ≡ answered d (lines input)
+unfolding lines
+whole_answered d buffer room input = by_lines input (reading d buffer 0) [] (holds_none d buffer room)
+
+-- what is held fits its buffer, however many bytes are taken
+pub sound_taken : (s : Reading) (bytes : List ℕ) → Sound s.kept → Sound (all_taken s bytes).kept
+unfolding all_taken byte_taken line_ends
+sound_taken s [] h = h
+sound_taken s (b ∷ bytes) h = sound_taken (byte_taken s b) bytes (go (eqb b 10))
+  where
+    go : (t : Bool) → Sound (cond t (line_ends s) (record { driver = s.driver; kept = keep_byte s.kept b })).kept
+    go true = record { room = h.room; few = omega arith }
+    go false = sound_byte s.kept b h
+
 -- ---- pieces
 
 whole_append : (s : Reading) (x y : List ℕ) → all_prints s x ++ whole (all_taken s x) y ≡ whole s (x ++ y)
@@ -138,5 +155,5 @@ in_pieces s [] = nothing_more s
 in_pieces s (p ∷ ps) = ap (λ (r : List ℕ). all_prints s p ++ r) (in_pieces (all_taken s p) ps) ∙ whole_append s p (joined ps)
 
 pub any_cutting : AnyCutting
-unfolding script lines
-any_cutting buffer room pieces = in_pieces (reading new buffer 0) pieces ∙ by_lines (joined pieces) (reading new buffer 0) [] (holds_new buffer room)
+unfolding script
+any_cutting buffer room pieces = in_pieces (reading new buffer 0) pieces ∙ whole_answered new buffer room (joined pieces)

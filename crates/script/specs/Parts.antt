@@ -10,6 +10,7 @@ unfoldable pub answer_length : LineAnswer → ℕ
 answer_length (LineAnswer.Said a) = length (line_text (LineAnswer.Said a))
 answer_length LineAnswer.NoCall = length (line_text LineAnswer.NoCall)
 answer_length LineAnswer.SheetTooShort = length (line_text LineAnswer.SheetTooShort)
+answer_length LineAnswer.SheetNotTaken = length (line_text LineAnswer.SheetNotTaken)
 answer_length (LineAnswer.Sheet n) = n
 
 -- a text at the front of a buffer, with every byte after it kept

@@ -9,9 +9,10 @@ use Rattle.script_answer.specs.declared.LineAnswer.{LineAnswer}
 unfoldable pub answer_line : Answer → List ℕ
 answer_line a = answer_text a ++ ascii "\n"
 
--- refusals 1 and 4 are `(refused N)`; a sheet has no answer line
+-- refusals 1, 4 and, of Job 2, 5 are `(refused N)`; a sheet has no answer line
 unfoldable pub line_text : LineAnswer → List ℕ
 line_text (LineAnswer.Said a) = answer_line a
 line_text LineAnswer.NoCall = ascii "(refused 1)\n"
 line_text LineAnswer.SheetTooShort = ascii "(refused 4)\n"
+line_text LineAnswer.SheetNotTaken = ascii "(refused 5)\n"
 line_text (LineAnswer.Sheet n) = []

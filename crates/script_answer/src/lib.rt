@@ -16,13 +16,14 @@ use text_put::TextWriter;
 mod lines;
 mod outcomes;
 
-// What a line is answered with. A sheet stands in the caller's buffer, this many bytes of it, and has no answer line. Refusals 1 and 4 are answers as any
-// other, so they are cases here and no error.
+// What a line is answered with. A sheet stands in the caller's buffer, this many bytes of it, and has no answer line. Refusals 1, 4 and 5 are answers as any
+// other, so they are cases here and no error; 5 is for bytes that are not taken for a sheet, which no line asks for.
 #[derive(Clone, Copy)]
 pub enum LineAnswer {
     Said(Answer),
     NoCall,
     SheetTooShort,
+    SheetNotTaken,
     Sheet(usize),
 }
 
@@ -71,6 +72,7 @@ pub(crate) fn put_line_text(out: &mut TextWriter<'_>, answer: LineAnswer)
         LineAnswer::Said(said) => put_answer(out, said),
         LineAnswer::NoCall => out.text(b"(refused 1)\n"),
         LineAnswer::SheetTooShort => out.text(b"(refused 4)\n"),
+        LineAnswer::SheetNotTaken => out.text(b"(refused 5)\n"),
         LineAnswer::Sheet(_) => {}
     }
 }

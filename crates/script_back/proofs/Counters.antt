@@ -12,7 +12,7 @@ use Rattle.text.specs.Rests.{at}
 use Rattle.text.specs.Words.{in_word, run}
 use Rattle.head_count.specs.declared.HeadStats.{HeadStats}
 use Rattle.head_count.specs.Ranges.{StatsFit}
-use Rattle.script_back.specs.Counters.{read_stats}
+use Rattle.sheet_read.specs.Values.{read_stats}
 
 pub spaced_back : (n : ℕ) (t : List ℕ) → Fits n → run t ≡ 0 → spaced_number (at (spaced_text n ++ t)) ≡ got n (at t)
 unfolding spaced_text
@@ -23,7 +23,7 @@ pub spaced_run : (n : ℕ) (t : List ℕ) → run (spaced_text n ++ t) ≡ 0
 unfolding spaced_text run in_word
 spaced_run n t = refl
 
-stats_form : (s : HeadStats) (t : List ℕ)
+pub stats_form : (s : HeadStats) (t : List ℕ)
     → stats_text s ++ t ≡ spaced_text s.delivered ++ (spaced_text s.repeated ++ (spaced_text s.superseded ++ (spaced_text s.settled
     ++ (spaced_text s.already_current ++ (spaced_text s.discarded ++ (spaced_text s.ready_views ++ (spaced_text s.cold_views ++ t)))))))
 unfolding stats_text stats_values values_on value_text spaced_text

@@ -14,7 +14,8 @@ use Rattle.head_current.specs.Said.{report_value}
 use Rattle.script_outcome.specs.Texts.{cold_text, end_text, outcome_text, readiness_text, report_text, settle_number_text, source_text}
 use Rattle.value_text.proofs.Back.{skip_back}
 use Rattle.value_text.proofs.Keywords.{open_miss, word_hit, word_miss}
-use Rattle.value_text.specs.Reads.{got, map, then}
+use Rattle.value_text.specs.Reads.{got, map, or_word, then}
+use Rattle.sheet_read.specs.Values as S
 use Rattle.value_text.specs.Texts.{fault_text, link_text, skip_text}
 use Rattle.script_value.specs.Texts.{spaced_text}
 use Rattle.value_text.specs.Values.{value_text}
@@ -31,7 +32,8 @@ use Rattle.head_attempt.specs.declared.HeadCompletion.{HeadCompletion}
 use Rattle.head_ready.specs.declared.HeadCold.{HeadCold}
 use Rattle.head_ready.specs.declared.HeadReadiness.{HeadReadiness}
 use Rattle.head_ready.specs.declared.Source.{Source}
-use Rattle.script_back.specs.Outcomes.{read_cold, read_end, read_fault, read_faulty, read_link, read_made, read_outcome, read_readiness, read_report, read_settle_number, read_source}
+use Rattle.script_back.specs.Outcomes.{read_end, read_link, read_readiness, read_settle_number, read_source}
+use Rattle.sheet_read.specs.Values.{read_cold, read_fault, read_faulty, read_made, read_outcome, read_report}
 use Rattle.hash.specs.Ranges.{Fits}
 use Rattle.head_values.specs.Ranges.{OutcomeFits, SkipFits}
 use Rattle.head_ready.specs.Ranges.{ReadinessFits, SourceFits}
@@ -109,7 +111,7 @@ module _ (t : List ℕ) (z : run t ≡ 0) where
 module _ (link : Link) (skip : BalSkip) (t : List ℕ) where
   -- ---- `(cold LINK SKIP)`
 
-  cold_form : cold_text link skip ++ t ≡ ascii "(cold " ++ (fault_text link ++ (ascii " " ++ (skip_text skip ++ (ascii ")" ++ t))))
+  pub cold_form : cold_text link skip ++ t ≡ ascii "(cold " ++ (fault_text link ++ (ascii " " ++ (skip_text skip ++ (ascii ")" ++ t))))
   unfolding cold_text fault_text skip_text value_text word_text
   cold_form = simp append_assoc
 
@@ -129,10 +131,18 @@ module _ (link : Link) (skip : BalSkip) (t : List ℕ) where
   unfolding read_readiness word_text map
   cold_readiness f = rw (cold_back f) (rw cold_form (open_miss _ _ _ _ _ ∙ open_miss _ _ _ _ _ ∙ open_miss _ _ _ _ _ ∙ open_miss _ _ _ _ _ ∙ open_miss _ _ _ _ _))
 
+  -- of a generation, which has no other words than `ready`
+  pub cold_kept : SkipFits skip
+      → or_word (word_text Word.ready) HeadReadiness.Ready (at (cold_text link skip ++ t))
+      (map S.cold_readiness (read_cold (at (cold_text link skip ++ t))))
+      ≡ got (HeadReadiness.Cold (HeadCold.Settled link skip)) (at t)
+  unfolding word_text map
+  cold_kept f = rw (cold_back f) (rw cold_form (open_miss _ _ _ _ _))
+
 -- ---- outcomes and reports
 
 module _ (n : ℕ) (t : List ℕ) where
-  carried_form : outcome_text (CarryOutcome.Carried n) ++ t ≡ ascii "(carried" ++ (spaced_text n ++ (ascii ")" ++ t))
+  pub carried_form : outcome_text (CarryOutcome.Carried n) ++ t ≡ ascii "(carried" ++ (spaced_text n ++ (ascii ")" ++ t))
   unfolding outcome_text outcome_value value_text word_text spaced_text
   carried_form = simp append_assoc
 
@@ -146,7 +156,7 @@ outcome_back (CarryOutcome.Carried n) t f = carried_back n t f
 outcome_back (CarryOutcome.Cold link skip) t f = cold_outcome link skip t f
 
 module _ (o : CarryOutcome) (n : ℕ) (t : List ℕ) where
-  made_form : report_text (Some (report_of o n)) ++ t ≡ ascii "(" ++ (outcome_text o ++ (spaced_text n ++ (ascii ")" ++ t)))
+  pub made_form : report_text (Some (report_of o n)) ++ t ≡ ascii "(" ++ (outcome_text o ++ (spaced_text n ++ (ascii ")" ++ t)))
   unfolding report_text report_value outcome_text value_text spaced_text
   made_form = simp append_assoc
 

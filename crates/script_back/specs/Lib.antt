@@ -1,3 +1,2 @@
--- What is read of the text of a value that no call has: Counters and Outcomes.
-pub mod Counters
+-- What is read of the text of a value that neither a call nor a sheet has: Outcomes.
 pub mod Outcomes

@@ -1,3 +1,3 @@
-// Readers of the values that only answers and sheets have, as definitions, and that each reads back what is written.
-// Theorems only: no code reads an answer or a sheet. Knows nothing of whole lines.
+// The values that only answers and sheets have: that each is read back as it was written. Those of answers are read here, as definitions.
+// Theorems only: no code reads an answer, and a sheet's reader is `sheet_read`'s. Knows nothing of whole lines.
 #![tactic(auto)]

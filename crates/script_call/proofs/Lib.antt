@@ -1,5 +1,6 @@
 -- For users: Back, a call's own line is read as that call; Only, no other line is; Ranges, what a line writes is below 2^64; Lengths, no call has more than
--- 297 bytes. ValuesBack, ValuesOnly and ValuesRanges say the same of the values of a call. Stopped, Keywords and Lines have the steps of single functions.
+-- 297 bytes. ValuesBack, ValuesOnly and ValuesRanges say the same of the values of a call. Stopped and Lines have the steps of single
+-- functions.
 pub mod ValuesBack
 pub mod ValuesOnly
 pub mod ValuesRanges
@@ -8,5 +9,4 @@ pub mod Only
 pub mod Ranges
 pub mod Lengths
 pub mod Stopped
-pub mod Keywords
 pub mod Lines

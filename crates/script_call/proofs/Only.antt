@@ -13,8 +13,9 @@ use Rattle.text.specs.Ascii.{ascii}
 use Rattle.text.specs.Same.{same_text}
 use Rattle.text.specs.Rests.{Rest, at, stopped, after, word_here, past_word, at_end}
 use Rattle.text.proofs.Same.{same_eq}
-use Rattle.script_call.proofs.ValuesRanges.{chosen}
-use Rattle.script_call.proofs.ValuesOnly.{after_only, past_only, spaced_number_only, spaced_hash_only, spaced_anchor_only, spaced_slot_only, spaced_skip_only}
+use Rattle.value_text.proofs.Ranges.{chosen}
+use Rattle.value_text.proofs.Only.{after_only, past_only, spaced_number_only}
+use Rattle.script_call.proofs.ValuesOnly.{spaced_hash_only, spaced_anchor_only, spaced_slot_only, spaced_skip_only}
 use Rattle.script_call.specs.Calls.{ends, closed, spaced_ticket, spaced_list, deliver_call, claim_call, release_call, apply_call, snapshot_call, wait_call, resume_call, completion_call, link_call, report_call, stats_call, heads_call, sheet_call, call_named, later_named, call_here, call}
 use Rattle.script_call.specs.Texts.{call_text, sheet_call_text}
 use Rattle.head_call.specs.Ranges.{Writable}

@@ -9,7 +9,8 @@ use Rattle.head_call.specs.declared.Call.{Call}
 use Rattle.text.specs.Ascii.{ascii}
 use Rattle.text.specs.Same.{same_text}
 use Rattle.text.specs.Rests.{Rest, at, after, word_here, past_word}
-use Rattle.script_call.proofs.ValuesRanges.{chosen, spaced_number_range, spaced_hash_range, spaced_anchor_range, spaced_slot_range, spaced_skip_range}
+use Rattle.value_text.proofs.Ranges.{chosen, spaced_number_range}
+use Rattle.script_call.proofs.ValuesRanges.{spaced_hash_range, spaced_anchor_range, spaced_slot_range, spaced_skip_range}
 use Rattle.script_call.specs.Calls.{ends, closed, spaced_ticket, spaced_list, deliver_call, claim_call, release_call, apply_call, snapshot_call, wait_call, resume_call, completion_call, link_call, report_call, stats_call, heads_call, sheet_call, call_named, later_named, call_here, call}
 use Rattle.head_call.specs.Ranges.{Writable}
 use Rattle.script_call.specs.Ranges.{LineWritable}

@@ -1,65 +1,11 @@
--- What is read from a line is below 2^64, whatever the line.
-use Rattle.head_values.specs.declared.ReadAnchor.{ReadAnchor}
-use mathlib.Core.Path.{◌≡◌, refl}
-use mathlib.Core.Bool.{Bool, true, false}
-use Rattle.std.specs.Prelude.{Option, Some, None, cond}
-use Rattle.hash.specs.declared.Hash.{Hash}
-use Rattle.head_values.specs.declared.BalSkip.{BalSkip}
-use Rattle.text.specs.Ascii.{ascii}
-use Rattle.text.specs.Rests.{Rest, Took, word_here, says, past_word}
-use Rattle.text.proofs.Only.{number_range}
-use Rattle.hash_text.specs.LineHashes.{line_hash}
-use Rattle.hash.specs.Ranges.{HashFits, Fits}
-use Rattle.hash_text.proofs.Only.{line_hash_only, hash_range}
-use Rattle.value_text.specs.Reads.{or_word, map, then, hash_said, block_hash_got, read_block_hash, read_anchor, read_slot, spaced_number, read_failure, read_skip}
-use Rattle.value_text.specs.Words.{word_text}
+-- What is read from a line is below 2^64, whatever the line (`value_text/proofs/Ranges`). Each value after one space.
+use Rattle.text.specs.Rests.{Rest}
+use Rattle.hash.specs.Ranges.{HashFits}
+use Rattle.hash_text.proofs.Only.{hash_range}
+use Rattle.head_values.specs.Ranges.{AnchorFits, SlotFits, SkipFits}
+use Rattle.value_text.proofs.Ranges.{anchor_range, skip_range, slot_range}
 use Rattle.value_text.specs.declared.page.Page.{Page}
 use Rattle.script_call.specs.Values.{spaced_hash, spaced_anchor, spaced_slot, spaced_skip}
-use Rattle.head_values.specs.Ranges.{BlockHashFits, AnchorFits, SlotFits, SkipFits}
-
--- what holds of both sides of a choice holds of what is chosen
-pub chosen : {A : Type 0} (P : A → Type 0) (b : Bool) (x y : A) → P x → P y → P (cond b x y)
-chosen P true x y p q = p
-chosen P false x y p q = q
-
--- ---- anchors
-
-got_range : (m : Option Hash) (r : Rest) → ((h : Hash) → m ≡ Some h → HashFits h) → BlockHashFits (block_hash_got m r).value
-unfolding block_hash_got
-got_range (Some h) r f = f h refl
-got_range None r f = tt
-
-pub block_hash_range : (r : Rest) → BlockHashFits (read_block_hash Page.Line r).value
-unfolding read_block_hash or_word word_text hash_said
-block_hash_range r =
-    chosen (λ (k : Took (Option Hash)). BlockHashFits k.value) (says (ascii "none") r) _ _ tt
-    (got_range (line_hash (word_here r)) (past_word r) (λ h e. (line_hash_only (word_here r) h e).1))
-
-pub anchor_range : (r : Rest) → AnchorFits (read_anchor Page.Line r).value
-unfolding read_anchor
-anchor_range r = record { number = number_range _; hash = block_hash_range _ }
-
-pub slot_range : (r : Rest) → SlotFits (read_slot Page.Line r).value
-unfolding read_slot or_word word_text map
-slot_range r = chosen (λ (k : Took (Option ReadAnchor)). SlotFits k.value) (says (ascii "none") r) _ _ tt (anchor_range r)
-
--- ---- skips
-
-pub spaced_number_range : (r : Rest) → Fits (spaced_number r).value
-unfolding spaced_number
-spaced_number_range r = number_range _
-
-failure_range : (r : Rest) → SkipFits (read_failure r).value
-unfolding read_failure then map word_text
-failure_range r =
-    let P : Took BalSkip → Type 0 = λ k. SkipFits k.value in
-    chosen P (says (ascii "rpc") r) _ _ (spaced_number_range _) (chosen P (says (ascii "decode") r) _ _ (spaced_number_range _) tt)
-
-pub skip_range : (r : Rest) → SkipFits (read_skip r).value
-unfolding read_skip or_word word_text
-skip_range r =
-    let P : Took BalSkip → Type 0 = λ k. SkipFits k.value in
-    chosen P (says (ascii "none") r) _ _ tt (chosen P (says (ascii "no-hash") r) _ _ tt (failure_range _))
 
 -- ---- each after one space
 
@@ -69,11 +15,11 @@ spaced_hash_range r = hash_range _
 
 pub spaced_anchor_range : (r : Rest) → AnchorFits (spaced_anchor r).value
 unfolding spaced_anchor
-spaced_anchor_range r = anchor_range _
+spaced_anchor_range r = anchor_range Page.Line _
 
 pub spaced_slot_range : (r : Rest) → SlotFits (spaced_slot r).value
 unfolding spaced_slot
-spaced_slot_range r = slot_range _
+spaced_slot_range r = slot_range Page.Line _
 
 pub spaced_skip_range : (r : Rest) → SkipFits (spaced_skip r).value
 unfolding spaced_skip

@@ -1,4 +1,4 @@
-// Call lines: from the bytes of a line to the call that they write, or to no call. The values of a call are read in `spaced`, `anchor` and `skip`.
+// Call lines: from the bytes of a line to the call that they write, or to no call. The values of a call are read in `spaced` and by `value_read`.
 // A reader that hands back `None` has found the line to be no call, so where it stands then is left open.
 // Knows nothing of what a call does, nor of answers.
 #![tactic(auto)]
@@ -7,17 +7,14 @@ ghost use Rattle.std.specs.Prelude.{◌≡◌};
 ghost use Rattle.line_reader.specs.Reads.{rest, Reads};
 ghost use Rattle.script_call.specs.Calls.{ends, closed, spaced_ticket, spaced_list, deliver_call, claim_call, release_call, apply_call, snapshot_call, wait_call, resume_call, completion_call, link_call, call_named, call};
 
-use crate::anchor::{spaced_anchor, spaced_slot};
-use crate::skip::spaced_skip;
-use crate::spaced::{spaced_hash, spaced_number};
+use crate::spaced::{spaced_anchor, spaced_hash, spaced_skip, spaced_slot};
 use head_call::Call;
 use head_count::{Epoch, Seq};
 use head_current::{HeadTicket, PrepareClaim};
 use head_values::PreparedBal;
 use line_reader::LineReader;
+use value_read::number::spaced_number;
 
-mod anchor;
-mod skip;
 mod spaced;
 
 // What a line asks for: two kinds, neither of which is none. The sheet is no call on the driver: it is written into the caller's buffer.
@@ -44,7 +41,7 @@ pub(crate) fn closed(r: &mut LineReader<'_>, read: Call) -> Option<LineCall>
 }
 
 // ` A SEQ`: a delivery, as a claim and an apply name it.
-#[tactic(auto, using(crate::proofs::Stopped::spaced_number_stopped), unfolding(crate::specs::Calls::spaced_ticket))]
+#[tactic(auto, using(value_read::proofs::Stopped::spaced_number_stopped), unfolding(crate::specs::Calls::spaced_ticket))]
 pub(crate) fn spaced_ticket(r: &mut LineReader<'_>) -> Option<HeadTicket>
     ensures { Reads r.old r.new result (spaced_ticket (rest r.old)) }
 {
@@ -64,7 +61,7 @@ pub(crate) fn spaced_list(r: &mut LineReader<'_>) -> Option<PreparedBal>
 }
 
 // `(deliver A P H)`, after its keyword. Each call has a function, so that its form is read beside its name; some are alike but for a value's type.
-#[tactic(auto, using(crate::proofs::Stopped::spaced_hash_stopped, crate::proofs::Stopped::spaced_number_stopped, crate::proofs::Stopped::closed_stopped), unfolding(crate::specs::Calls::deliver_call))]
+#[tactic(auto, using(crate::proofs::Stopped::spaced_hash_stopped, value_read::proofs::Stopped::spaced_number_stopped, crate::proofs::Stopped::closed_stopped), unfolding(crate::specs::Calls::deliver_call))]
 pub(crate) fn deliver_call(r: &mut LineReader<'_>) -> Option<LineCall>
     ensures { result ≡ deliver_call (rest r.old) }
 {
@@ -84,7 +81,7 @@ pub(crate) fn claim_call(r: &mut LineReader<'_>) -> Option<LineCall>
 }
 
 // `(release SEQ EPOCH)`
-#[tactic(auto, using(crate::proofs::Stopped::spaced_number_stopped, crate::proofs::Stopped::closed_stopped), unfolding(crate::specs::Calls::release_call))]
+#[tactic(auto, using(value_read::proofs::Stopped::spaced_number_stopped, crate::proofs::Stopped::closed_stopped), unfolding(crate::specs::Calls::release_call))]
 pub(crate) fn release_call(r: &mut LineReader<'_>) -> Option<LineCall>
     ensures { result ≡ release_call (rest r.old) }
 {
@@ -94,7 +91,7 @@ pub(crate) fn release_call(r: &mut LineReader<'_>) -> Option<LineCall>
 }
 
 // `(apply A SEQ A X H C REPORT)`
-#[tactic(auto, using(crate::proofs::Stopped::spaced_list_stopped, crate::proofs::Stopped::spaced_number_stopped, crate::proofs::Stopped::closed_stopped), unfolding(crate::specs::Calls::apply_call))]
+#[tactic(auto, using(crate::proofs::Stopped::spaced_list_stopped, value_read::proofs::Stopped::spaced_number_stopped, crate::proofs::Stopped::closed_stopped), unfolding(crate::specs::Calls::apply_call))]
 pub(crate) fn apply_call(r: &mut LineReader<'_>) -> Option<LineCall>
     ensures { result ≡ apply_call (rest r.old) }
 {
@@ -107,7 +104,7 @@ pub(crate) fn apply_call(r: &mut LineReader<'_>) -> Option<LineCall>
 }
 
 // `(snapshot A H)`
-#[tactic(auto, using(crate::proofs::Stopped::spaced_number_stopped, crate::proofs::Stopped::closed_stopped), unfolding(crate::specs::Calls::snapshot_call))]
+#[tactic(auto, using(value_read::proofs::Stopped::spaced_number_stopped, crate::proofs::Stopped::closed_stopped), unfolding(crate::specs::Calls::snapshot_call))]
 pub(crate) fn snapshot_call(r: &mut LineReader<'_>) -> Option<LineCall>
     ensures { result ≡ snapshot_call (rest r.old) }
 {
@@ -117,7 +114,7 @@ pub(crate) fn snapshot_call(r: &mut LineReader<'_>) -> Option<LineCall>
 }
 
 // `(wait N A H)`
-#[tactic(auto, using(crate::proofs::Stopped::spaced_anchor_stopped, crate::proofs::Stopped::spaced_number_stopped, crate::proofs::Stopped::closed_stopped), unfolding(crate::specs::Calls::wait_call))]
+#[tactic(auto, using(crate::proofs::Stopped::spaced_anchor_stopped, value_read::proofs::Stopped::spaced_number_stopped, crate::proofs::Stopped::closed_stopped), unfolding(crate::specs::Calls::wait_call))]
 pub(crate) fn wait_call(r: &mut LineReader<'_>) -> Option<LineCall>
     ensures { result ≡ wait_call (rest r.old) }
 {
@@ -128,7 +125,7 @@ pub(crate) fn wait_call(r: &mut LineReader<'_>) -> Option<LineCall>
 }
 
 // `(resume N H)`
-#[tactic(auto, using(crate::proofs::Stopped::spaced_number_stopped, crate::proofs::Stopped::closed_stopped), unfolding(crate::specs::Calls::resume_call))]
+#[tactic(auto, using(value_read::proofs::Stopped::spaced_number_stopped, crate::proofs::Stopped::closed_stopped), unfolding(crate::specs::Calls::resume_call))]
 pub(crate) fn resume_call(r: &mut LineReader<'_>) -> Option<LineCall>
     ensures { result ≡ resume_call (rest r.old) }
 {
@@ -158,7 +155,7 @@ pub(crate) fn link_call(r: &mut LineReader<'_>) -> Option<LineCall>
 }
 
 // The call of a keyword, with the reader after it: in document 01's order.
-#[tactic(auto, using(crate::proofs::Keywords::same_bytes, crate::proofs::Keywords::other_length, crate::proofs::Keywords::other_byte), unfolding(crate::specs::Calls::call_named, crate::specs::Calls::later_named, crate::specs::Calls::report_call, crate::specs::Calls::stats_call, crate::specs::Calls::heads_call, crate::specs::Calls::sheet_call))]
+#[tactic(auto, using(value_read::proofs::Keywords::same_bytes, value_read::proofs::Keywords::other_length, value_read::proofs::Keywords::other_byte), unfolding(crate::specs::Calls::call_named, crate::specs::Calls::later_named, crate::specs::Calls::report_call, crate::specs::Calls::stats_call, crate::specs::Calls::heads_call, crate::specs::Calls::sheet_call))]
 pub(crate) fn by_word(word: &[u8], r: &mut LineReader<'_>) -> Option<LineCall>
     ensures { result ≡ call_named word.now (rest r.old) }
 {

@@ -4,11 +4,11 @@ use Rattle.head_ready.specs.declared.Generation.{Generation}
 use Prim.Native.Nat.{ℕ, zero, suc, ◌+◌, ◌≤◌}
 use native.Mathlib.Omega.{arith}
 use mathlib.Core.List.{List, [], ◌∷◌}
-use mathlib.Core.Path.{◌≡◌, refl}
+use mathlib.Core.Path.{◌≡◌, refl, ap, sym, ◌∙◌, subst}
 use lib.ListN.{length, length-append}
 use Rattle.alike.specs.Canon.{shown_life}
 use Rattle.script_sheet.proofs.Shown.{sheet_shown}
-use Rattle.script_sheet.specs.Sheets.{life_lines}
+use Rattle.script_sheet.specs.Sheets.{life_lines, lines_of, sheet_text}
 use Rattle.sheet_lines.specs.Lines.{count_line, current_line, delivery_text, generation_text, installed_line, unclaimed_end_text, previous_line, superseded_line, unsettled_text, waiter_line, waiter_lines}
 use Rattle.text.specs.Decimals.{decimal, decimal_on}
 use Rattle.head_count.specs.declared.Epoch.{Epoch}
@@ -21,7 +21,8 @@ use Rattle.head_current.specs.declared.HeadDelivery.{HeadDelivery}
 use Rattle.head_current.specs.declared.UnsettledHead.{UnsettledHead}
 use Rattle.head_life.specs.declared.HeadLifecycle.{HeadLifecycle}
 use Rattle.value_text.specs.declared.page.Page.{Page}
-use Rattle.script_lengths.specs.Statements.{SheetLength, SheetRoom}
+use Rattle.sheet_rules.proofs.Kept.{shows_self}
+use Rattle.script_lengths.specs.Statements.{SheetLength, SheetRoom, TakenLength}
 use Rattle.value_text.proofs.Lengths.{anchor_most, hash_length, slot_most}
 use Rattle.script_lengths.proofs.Values.{readiness_most, report_most, spaced_most, stats_most}
 
@@ -92,3 +93,7 @@ sheet_length d e =
 
 pub sheet_room : SheetRoom
 sheet_room d v = omega (arith, sheet_length d v.fits.sixteen)
+
+pub taken_length : TakenLength
+unfolding sheet_text
+taken_length text d f m = subst (λ t. length t ≤ 2652) (ap lines_of (shows_self d f.0 m) ∙ sym f.1) (sheet_length d f.0.fits.sixteen)

@@ -1,5 +1,10 @@
--- For users: Sheets, the statements. Ranges, Lines and Waiters are its steps.
+-- For users: Sheets and Forms, the statements. Ranges, Lines and Waiters are steps to the first; Only, WaitersOnly and Shapes, what is read
+-- was written so, to the second.
 pub mod Ranges
 pub mod Lines
+pub mod Only
+pub mod WaitersOnly
+pub mod Shapes
 pub mod Waiters
+pub mod Forms
 pub mod Sheets

@@ -5,25 +5,29 @@ use Prim.Native.Nat.{ℕ}
 use mathlib.Core.List.{List, ◌++◌, append_assoc}
 use mathlib.Core.Path.{◌≡◌, refl, ◌∙◌}
 use lib.ListN.{length}
-use Rattle.head_ready.specs.Ranges.{GenerationFits, GenerationSlotFits}
+use Rattle.head_ready.specs.Ranges.{GenerationFits, GenerationSlotFits, ReadinessFits}
+use Rattle.head_ready.specs.Said.{readiness_value}
+use Rattle.head_ready.specs.declared.HeadCold.{HeadCold}
+use Rattle.head_ready.specs.declared.HeadReadiness.{HeadReadiness}
+use Rattle.sheet_rules.specs.Form.{KeptReadiness}
 use Rattle.head_current.specs.Ranges.{DeliveryFits, HeadFits, SettledFits, UnsettledFits}
 use Rattle.alike.specs.Canon.{shown_head}
-use Rattle.alike.specs.Invariant.{OpenOrAbandoned, WhenUnclaimed}
+use Rattle.alike.specs.Invariant.{OpenOrAbandoned, WhenGeneration, WhenUnclaimed}
 use Rattle.head_count.specs.Counters.{seq_of}
 use Rattle.head_current.specs.Parts.{delivery_of}
 use Rattle.hash_text.proofs.Back.{sheet_hash_back}
 use Rattle.value_text.proofs.Back.{anchor_back, anchor_form, slot_back}
 use Rattle.value_text.proofs.Keywords.{open_miss, word_hit, word_miss}
 use Rattle.script_back.proofs.Counters.{spaced_back, spaced_run, stats_back}
-use Rattle.script_back.proofs.Outcomes.{readiness_back, report_back}
+use Rattle.script_back.proofs.Outcomes.{cold_kept, report_back}
 use Rattle.head_values.specs.Ranges.{SlotFits}
 use Rattle.hash.specs.Ranges.{Fits}
 use Rattle.head_count.specs.Ranges.{StatsFit}
-use Rattle.value_text.specs.Reads.{got, then}
-use Rattle.script_outcome.specs.Texts.{readiness_text, report_text}
+use Rattle.value_text.specs.Reads.{got, map, then}
+use Rattle.script_outcome.specs.Texts.{cold_text, readiness_text, report_text}
 use Rattle.script_value.specs.Texts.{spaced_text, stats_text}
 use Rattle.value_text.specs.Texts.{anchor_text}
-use Rattle.value_text.specs.Values.{hash_text}
+use Rattle.value_text.specs.Values.{hash_text, value_text}
 use Rattle.value_text.specs.Words.{word_text}
 use Rattle.sheet_lines.specs.Lines.{count_line, current_line, delivery_text, generation_text, installed_line, unclaimed_end_text, previous_line, superseded_line, unsettled_text}
 use Rattle.text.proofs.Back.{past_back, word_back}
@@ -40,7 +44,7 @@ use Rattle.head_current.specs.declared.SettledHead.{SettledHead}
 use Rattle.head_current.specs.declared.UnsettledHead.{UnsettledHead}
 use Rattle.head_ready.specs.declared.Generation.{Generation}
 use Rattle.value_text.specs.declared.page.Page.{Page}
-use Rattle.sheet_back.specs.Heads.{head_named, read_count, read_current, read_delivery, read_generation, read_held, read_installed, read_unclaimed_end, read_preparing, read_previous, read_settled, read_superseded, read_unclaimed}
+use Rattle.sheet_read.specs.Heads.{head_named, read_count, read_current, read_delivery, read_generation, read_held, read_installed, read_kept_readiness, read_unclaimed_end, read_preparing, read_previous, read_settled, read_superseded, read_unclaimed}
 
 -- ---- count
 
@@ -149,27 +153,42 @@ held_form : (g : Generation) (t : List ℕ)
 unfolding generation_text
 held_form g t = simp append_assoc
 
-held_back : (g : Generation) (t : List ℕ) → GenerationFits g → run t ≡ 0 → read_held (at (generation_text (Some g) ++ t)) ≡ got (Some g) (at t)
+-- `ready` or `(cold LINK SKIP)`
+kept_back : (r : HeadReadiness) (t : List ℕ) → KeptReadiness r → ReadinessFits r → run t ≡ 0
+    → read_kept_readiness (at (readiness_text r ++ t)) ≡ got r (at t)
+unfolding read_kept_readiness readiness_text readiness_value cold_text value_text word_text run in_word map
+kept_back HeadReadiness.Ready t k f z = word_hit _ _ t z (ascii "ready") refl
+kept_back (HeadReadiness.Cold HeadCold.Unprepared) t k f z = absurd k
+kept_back (HeadReadiness.Cold HeadCold.Superseded) t k f z = absurd k
+kept_back (HeadReadiness.Cold HeadCold.Undelivered) t k f z = absurd k
+kept_back (HeadReadiness.Cold HeadCold.Abandoned) t k f z = absurd k
+kept_back (HeadReadiness.Cold (HeadCold.Settled link skip)) t k f z = cold_kept link skip t f
+
+held_back : (g : Generation) (t : List ℕ) → KeptReadiness g.readiness → GenerationFits g → run t ≡ 0
+    → read_held (at (generation_text (Some g) ++ t)) ≡ got (Some g) (at t)
 unfolding read_held after after_byte run in_word
-held_back g t f z =
+held_back g t k f z =
     let fa = f.anchor in
     let fh = f.handle in
     let fn = f.seq in
     let fr = f.readiness in
-    rw (held_form g t) (simp (anchor_back, spaced_run, spaced_back, readiness_back))
+    rw (held_form g t) (simp (anchor_back, spaced_run, spaced_back, kept_back))
 
-generation_back : (g : Option Generation) (t : List ℕ) → GenerationSlotFits g → run t ≡ 0 → read_generation (at (generation_text g ++ t)) ≡ got g (at t)
+generation_back : (g : Option Generation) (t : List ℕ) → WhenGeneration g (λ g. KeptReadiness g.readiness) → GenerationSlotFits g
+    → run t ≡ 0 → read_generation (at (generation_text g ++ t)) ≡ got g (at t)
 unfolding read_generation generation_text word_text run in_word
-generation_back None t f z = word_hit _ _ t z (ascii "none") refl
-generation_back (Some g) t f z = held_open g t ∙ held_back g t f z
+generation_back None t k f z = word_hit _ _ t z (ascii "none") refl
+generation_back (Some g) t k f z = held_open g t ∙ held_back g t k f z
   where
     held_open : (g : Generation) (t : List ℕ) → read_generation (at (generation_text (Some g) ++ t)) ≡ read_held (at (generation_text (Some g) ++ t))
     held_open g t = rw (held_form g t, anchor_form Page.Sheet g.anchor) (open_miss _ _ _ _ _)
 
-pub installed_back : (g : Option Generation) (t : List ℕ) → GenerationSlotFits g → read_installed (at (installed_line g ++ t)) ≡ got g (at t)
+pub installed_back : (g : Option Generation) (t : List ℕ) → WhenGeneration g (λ g. KeptReadiness g.readiness) → GenerationSlotFits g
+    → read_installed (at (installed_line g ++ t)) ≡ got g (at t)
 unfolding read_installed installed_line then after after_byte run in_word
-installed_back g t f = simp (append_assoc, generation_back)
+installed_back g t k f = simp (append_assoc, generation_back)
 
-pub previous_back : (g : Option Generation) (t : List ℕ) → GenerationSlotFits g → read_previous (at (previous_line g ++ t)) ≡ got g (at t)
+pub previous_back : (g : Option Generation) (t : List ℕ) → WhenGeneration g (λ g. KeptReadiness g.readiness) → GenerationSlotFits g
+    → read_previous (at (previous_line g ++ t)) ≡ got g (at t)
 unfolding read_previous previous_line then after after_byte run in_word
-previous_back g t f = simp (append_assoc, generation_back)
+previous_back g t k f = simp (append_assoc, generation_back)

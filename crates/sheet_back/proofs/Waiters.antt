@@ -23,7 +23,7 @@ use Rattle.head_values.specs.declared.ReadAnchor.{ReadAnchor}
 use Rattle.head_attempt.specs.declared.Waiter.{Waiter}
 use Rattle.head_attempt.specs.declared.WaiterSlot.{WaiterSlot}
 use Rattle.value_text.specs.declared.page.Page.{Page}
-use Rattle.sheet_back.specs.Waiters.{going, names, read_waiter, read_waiter_at, read_waiters, waiter_named}
+use Rattle.sheet_read.specs.Waiters.{going, names, read_waiter, read_waiter_at, read_waiters, waiter_named}
 
 -- what a line of a waiter says after its number, and the number that the next line goes on with
 abbrev next : List ℕ → Took ℕ

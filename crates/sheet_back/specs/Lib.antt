@@ -1,5 +1,2 @@
--- Statements are what is proved; Heads, Waiters and Reads, the reader of sheets, what they speak of.
-pub mod Heads
-pub mod Waiters
-pub mod Reads
+-- What is proved of sheets.
 pub mod Statements

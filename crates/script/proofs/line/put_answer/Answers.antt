@@ -12,6 +12,7 @@ unfolding answer_length
 line_counted (LineAnswer.Said s) p q = absurd (p s refl)
 line_counted LineAnswer.NoCall p q = refl
 line_counted LineAnswer.SheetTooShort p q = refl
+line_counted LineAnswer.SheetNotTaken p q = refl
 line_counted (LineAnswer.Sheet n) p q = absurd (q n refl)
 
 pub returns-in-Said : goal.returns-in-Said

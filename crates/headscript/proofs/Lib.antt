@@ -1,2 +1,0 @@
--- The loop over what a read brought.
-pub mod Answering

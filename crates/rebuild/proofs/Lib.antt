@@ -1,0 +1,2 @@
+-- The steps of the function.
+pub mod Rebuilt

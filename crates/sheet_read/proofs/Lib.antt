@@ -1,0 +1,3 @@
+-- The steps of single functions.
+pub mod Stopped
+pub mod Waiters

@@ -1,0 +1,4 @@
+-- The steps of single functions.
+pub mod Keywords
+pub mod Stopped
+pub mod Texts
