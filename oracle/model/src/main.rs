@@ -1,21 +1,15 @@
-//! `model`: document 01's driver with Job 1's settle numbers written a second time, without any
-//! code of the harness. It reads lines from standard input and prints answers, and one fault
-//! can be planted in it.
+//! `model`: reads lines from standard input and prints the model's answers. With FILE it starts
+//! from the driver that the sheet in FILE shows.
 
-mod fault;
-mod read;
-mod state;
-mod write;
-
-use fault::{Fault, FAULTS};
-use read::{Bad, Reader};
-use state::{Answer, Model};
+use model::{Driver, Fault, FAULTS, LONGEST_SHEET};
 use std::env;
-use std::io::{self, BufRead, BufWriter, Write};
+use std::ffi::{OsStr, OsString};
+use std::fs::File;
+use std::io::{self, BufWriter, Read, Write};
 use std::process::ExitCode;
-use write::Lines;
 
-const USAGE: &str = "usage: model [--fault NAME] [--count NINE NUMBERS] < LINES, or model --faults";
+const USAGE: &str =
+    "usage: model [--fault NAME] [--count NINE NUMBERS | FILE] < LINES, or model --faults";
 
 fn main() -> ExitCode {
     match run() {
@@ -28,75 +22,70 @@ fn main() -> ExitCode {
 }
 
 fn run() -> Result<(), String> {
-    let mut count = [0; 9];
+    let mut count = None;
     let mut fault = None;
-    let mut arguments = env::args().skip(1);
+    let mut files = Vec::new();
+    let mut arguments = env::args_os().skip(1);
     while let Some(argument) = arguments.next() {
-        match argument.as_str() {
-            "--faults" => {
+        match argument.to_str() {
+            Some("--faults") => {
                 FAULTS.iter().for_each(|(_, name)| println!("{name}"));
                 return Ok(());
             }
-            "--fault" => fault = Some(named_fault(arguments.next())?),
-            "--count" => {
-                for counter in &mut count {
-                    *counter = number(arguments.next())?;
-                }
-            }
-            _ => return Err(USAGE.to_owned()),
+            Some("--fault") => fault = Some(named_fault(arguments.next())?),
+            Some("--count") => count = Some(nine_numbers(&mut arguments)?),
+            Some(option) if option.starts_with("--") => return Err(USAGE.to_owned()),
+            _ => files.push(argument),
         }
     }
-    answer_lines(Model::new(count, fault), &Reader { fault }).map_err(|error| error.to_string())
-}
-
-fn named_fault(name: Option<String>) -> Result<Fault, String> {
-    let known = FAULTS
-        .iter()
-        .find(|(_, known)| name.as_deref() == Some(known));
-    known.map(|(fault, _)| *fault).ok_or_else(|| {
-        format!(
-            "no fault is named {:?}: model --faults lists them",
-            name.unwrap_or_default()
-        )
-    })
-}
-
-fn number(word: Option<String>) -> Result<u64, String> {
-    word.and_then(|word| word.parse().ok())
-        .ok_or_else(|| "--count needs nine numbers from 0 to 2^64 - 1".to_owned())
-}
-
-fn answer_lines(mut model: Model, reader: &Reader) -> io::Result<()> {
-    let mut input = io::stdin().lock();
-    let mut output = BufWriter::with_capacity(1 << 16, io::stdout().lock());
-    let mut line = Vec::new();
-    while input.read_until(b'\n', &mut line)? > 0 {
-        let whole = line.strip_suffix(b"\n");
-        if whole.is_some() || !model.has(Fault::LastLineLost) {
-            answer_line(&mut model, reader, whole.unwrap_or(&line), &mut output)?;
-        }
-        line.clear();
-    }
-    output.flush()
-}
-
-fn answer_line(
-    model: &mut Model,
-    reader: &Reader,
-    line: &[u8],
-    output: &mut impl Write,
-) -> io::Result<()> {
-    if line.is_empty() && model.has(Fault::EmptyLineSilent) {
-        return Ok(());
-    }
-    if line.len() > 512 && model.has(Fault::LongLineSplit) {
-        answer_line(model, reader, &line[..512], output)?;
-        return answer_line(model, reader, &line[512..], output);
-    }
-    let answer = match reader.call(line) {
-        Ok(call) => model.step(call),
-        Err(Bad::WaiterNumber) if model.has(Fault::OverflowIsThree) => Answer::Refused(3),
-        Err(Bad::Line | Bad::WaiterNumber) => Answer::Refused(1),
+    let driver = match (count, files.as_slice()) {
+        (count, []) => Some(Driver::new(count.unwrap_or_default(), fault)),
+        (Some(_), _) => return Err(USAGE.to_owned()),
+        (None, [file]) => read(file)
+            .ok()
+            .and_then(|bytes| Driver::from_sheet(&bytes, fault).ok()),
+        (None, _) => None,
     };
-    write!(output, "{}", Lines(model, &answer))
+    answer(driver).map_err(|error| error.to_string())
+}
+
+/// Answer standard input, or say that no sheet was taken.
+fn answer(driver: Option<Driver>) -> io::Result<()> {
+    let mut output = BufWriter::with_capacity(1 << 16, io::stdout().lock());
+    match driver {
+        Some(mut driver) => driver.answer_lines(io::stdin().lock(), output),
+        None => {
+            output.write_all(b"(refused 5)\n")?;
+            output.flush()
+        }
+    }
+}
+
+/// What FILE holds, up to one byte more than any sheet has. A name that is no UTF-8 names none.
+fn read(file: &OsStr) -> io::Result<Vec<u8>> {
+    let file = file.to_str().ok_or(io::ErrorKind::InvalidInput)?;
+    let mut bytes = Vec::new();
+    let most = LONGEST_SHEET as u64 + 1;
+    File::open(file)?.take(most).read_to_end(&mut bytes)?;
+    Ok(bytes)
+}
+
+fn named_fault(name: Option<OsString>) -> Result<Fault, String> {
+    let name = name.unwrap_or_default();
+    let known = FAULTS.iter().find(|(_, known)| name == **known);
+    known
+        .map(|(fault, _)| *fault)
+        .ok_or_else(|| format!("no fault is named {name:?}: model --faults lists them"))
+}
+
+fn nine_numbers(arguments: &mut impl Iterator<Item = OsString>) -> Result<[u64; 9], String> {
+    let mut numbers = [0; 9];
+    for number in &mut numbers {
+        let word = arguments.next().unwrap_or_default();
+        *number = word
+            .to_str()
+            .and_then(|word| word.parse().ok())
+            .ok_or("--count needs nine numbers from 0 to 2^64 - 1")?;
+    }
+    Ok(numbers)
 }

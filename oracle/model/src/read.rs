@@ -4,7 +4,7 @@ use crate::fault::Fault;
 use crate::state::{Anchor, Call, Hash, Skip};
 
 /// A word, or a bracketed row of forms.
-enum Form<'a> {
+pub(crate) enum Form<'a> {
     Word(&'a [u8]),
     Row(Vec<Form<'a>>),
 }
@@ -16,6 +16,7 @@ pub enum Bad {
     WaiterNumber,
 }
 
+#[derive(Clone, Copy)]
 pub struct Reader {
     pub fault: Option<Fault>,
 }
@@ -25,9 +26,14 @@ impl Reader {
         if line.len() > 512 {
             return Err(Bad::Line);
         }
-        match self.form(line).ok_or(Bad::Line)? {
-            (Form::Row(row), b"") => self.row(&row),
-            _ => Err(Bad::Line),
+        self.row(&self.bracketed(line).ok_or(Bad::Line)?)
+    }
+
+    /// The forms of the one row that the text is.
+    pub(crate) fn bracketed<'a>(&self, text: &'a [u8]) -> Option<Vec<Form<'a>>> {
+        match self.form(text)? {
+            (Form::Row(row), b"") => Some(row),
+            _ => None,
         }
     }
 
@@ -101,7 +107,7 @@ impl Reader {
         })
     }
 
-    fn anchor(&self, form: &Form) -> Option<Anchor> {
+    pub(crate) fn anchor(&self, form: &Form) -> Option<Anchor> {
         let Form::Row(row) = form else {
             return None;
         };
@@ -118,7 +124,7 @@ impl Reader {
         })
     }
 
-    fn hash(&self, form: &Form) -> Option<Hash> {
+    pub(crate) fn hash(&self, form: &Form) -> Option<Hash> {
         let Form::Word(word) = form else {
             return None;
         };
@@ -130,7 +136,7 @@ impl Reader {
         digits.then_some(hash)
     }
 
-    fn number(&self, form: &Form) -> Option<u64> {
+    pub(crate) fn number(&self, form: &Form) -> Option<u64> {
         let Form::Word(word) = form else {
             return None;
         };
@@ -148,7 +154,7 @@ impl Reader {
         text.parse().ok()
     }
 
-    fn skip(&self, form: &Form) -> Option<Skip> {
+    pub(crate) fn skip(&self, form: &Form) -> Option<Skip> {
         match form {
             Form::Word(b"none") => Some(Skip::None),
             Form::Word(b"no-hash") => Some(Skip::NoHash),

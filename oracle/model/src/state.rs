@@ -112,6 +112,7 @@ pub enum End {
     Abandoned,
 }
 
+#[derive(Clone, Copy)]
 pub struct Head {
     pub anchor: Anchor,
     pub parent: Hash,
@@ -119,8 +120,8 @@ pub struct Head {
     pub handle: u64,
     pub end: End,
     pub report: Option<(Outcome, u64)>,
-    seq: u64,
-    epoch: u64,
+    pub seq: u64,
+    pub epoch: u64,
 }
 
 #[derive(Clone, Copy)]
@@ -132,7 +133,7 @@ pub struct Generation {
     pub readiness: Readiness,
 }
 
-#[derive(Clone, Copy)]
+#[derive(Clone, Copy, PartialEq, Eq)]
 pub enum Waiter {
     Free,
     Parked,
@@ -141,7 +142,7 @@ pub enum Waiter {
 }
 
 // The eight counters in document 01's order.
-const DELIVERED: usize = 0;
+pub const DELIVERED: usize = 0;
 const REPEATED: usize = 1;
 const SUPERSEDED: usize = 2;
 const SETTLED: usize = 3;
@@ -149,6 +150,50 @@ const ALREADY_CURRENT: usize = 4;
 const DISCARDED: usize = 5;
 const READY_VIEWS: usize = 6;
 const COLD_VIEWS: usize = 7;
+
+/// What a sheet shows of a driver.
+#[derive(Clone, Copy)]
+pub struct Shown {
+    pub counters: [u64; 8],
+    pub epoch: u64,
+    pub current: Option<ShownHead>,
+    pub superseded: Option<Anchor>,
+    pub installed: Option<Generation>,
+    pub previous: Option<Generation>,
+    pub waiters: [Waiter; 16],
+}
+
+impl Shown {
+    /// The anchor of a current head that is settled.
+    #[must_use]
+    pub fn settled(&self) -> Option<Anchor> {
+        let head = self.current?;
+        matches!(head.stage, Stage::Settled { .. }).then_some(head.anchor)
+    }
+
+    /// The anchor of a current head that is not settled.
+    #[must_use]
+    pub fn unsettled(&self) -> Option<Anchor> {
+        let head = self.current?;
+        (!matches!(head.stage, Stage::Settled { .. })).then_some(head.anchor)
+    }
+}
+
+/// What a sheet shows of the current head.
+#[derive(Clone, Copy)]
+pub struct ShownHead {
+    pub anchor: Anchor,
+    pub parent: Hash,
+    pub stage: Stage,
+}
+
+/// Where the current head stands, with what a sheet shows only there.
+#[derive(Clone, Copy)]
+pub enum Stage {
+    Unclaimed { handle: u64, abandoned: bool },
+    Preparing { handle: u64 },
+    Settled { report: Option<(Outcome, u64)> },
+}
 
 pub struct Model {
     pub counters: [u64; 8],
@@ -158,12 +203,13 @@ pub struct Model {
     pub installed: Option<Generation>,
     pub previous: Option<Generation>,
     pub waiters: [Waiter; 16],
-    seq: u64,
-    fault: Option<Fault>,
+    pub seq: u64,
+    pub fault: Option<Fault>,
 }
 
 impl Model {
     /// A new driver with its eight counters and its epoch at `count`.
+    #[must_use]
     pub fn new(count: [u64; 9], fault: Option<Fault>) -> Self {
         let [counters @ .., epoch] = count;
         Self {
@@ -179,6 +225,7 @@ impl Model {
         }
     }
 
+    #[must_use]
     pub fn has(&self, fault: Fault) -> bool {
         self.fault == Some(fault)
     }
@@ -679,8 +726,22 @@ impl Model {
         }
     }
 
+    /// What a sheet shows.
+    #[must_use]
+    pub fn shown(&self) -> Shown {
+        Shown {
+            counters: self.counters,
+            epoch: self.epoch,
+            current: self.current.as_ref().map(Head::shown),
+            superseded: self.shown_superseded(),
+            installed: self.installed,
+            previous: self.previous,
+            waiters: self.waiters,
+        }
+    }
+
     /// The superseded anchor as a sheet shows it.
-    pub fn shown_superseded(&self) -> Option<Anchor> {
+    fn shown_superseded(&self) -> Option<Anchor> {
         let anchor = self.superseded?;
         let head = self.current.as_ref();
         let current = head.is_some_and(|head| head.anchor == anchor);
@@ -689,6 +750,27 @@ impl Model {
         let masked = (current && !self.has(Fault::MaskNever))
             || (previous && (settled || self.has(Fault::MaskUnsettled)));
         (!masked).then_some(anchor)
+    }
+}
+
+impl Head {
+    fn shown(&self) -> ShownHead {
+        ShownHead {
+            anchor: self.anchor,
+            parent: self.parent,
+            stage: match self.pose {
+                Pose::Unclaimed => Stage::Unclaimed {
+                    handle: self.handle,
+                    abandoned: self.end == End::Abandoned,
+                },
+                Pose::Preparing => Stage::Preparing {
+                    handle: self.handle,
+                },
+                Pose::Settled => Stage::Settled {
+                    report: self.report,
+                },
+            },
+        }
     }
 }
 

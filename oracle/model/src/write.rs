@@ -1,8 +1,8 @@
 //! Answers and sheets as text.
 
 use crate::state::{
-    Anchor, Answer, End, Generation, Head, Link, Model, Outcome, Pose, Readiness, Skip, View,
-    Waiter,
+    Anchor, Answer, Generation, Link, Model, Outcome, Readiness, Shown, ShownHead, Skip, Stage,
+    View, Waiter,
 };
 use std::fmt::{self, Display, Formatter};
 
@@ -34,7 +34,7 @@ impl Display for Lines<'_> {
                 OrNone(model.installed.map(|held| held.anchor)),
                 OrNone(model.previous.map(|held| held.anchor)),
             ),
-            Answer::Sheet => sheet(f, model),
+            Answer::Sheet => model.shown().fmt(f),
             Answer::Refused(number) => writeln!(f, "(refused {number})"),
             Answer::Superseded(anchor) => writeln!(f, "(refused 11 {anchor})"),
             Answer::Foreign(list, held) => writeln!(f, "(refused 12 {list} {held})"),
@@ -42,21 +42,24 @@ impl Display for Lines<'_> {
     }
 }
 
-fn sheet(f: &mut Formatter, model: &Model) -> fmt::Result {
-    writeln!(f, "(count{} {})", Numbers(&model.counters), model.epoch)?;
-    writeln!(f, "(current {})", OrNone(model.current.as_ref()))?;
-    writeln!(f, "(superseded {})", OrNone(model.shown_superseded()))?;
-    writeln!(f, "(installed {})", OrNone(model.installed))?;
-    writeln!(f, "(previous {})", OrNone(model.previous))?;
-    for (number, waiter) in model.waiters.iter().enumerate() {
-        match waiter {
-            Waiter::Free => {}
-            Waiter::Parked => writeln!(f, "(wait {number} parked)")?,
-            Waiter::Abandoned(anchor) => writeln!(f, "(wait {number} abandoned {anchor})")?,
-            Waiter::Ended(anchor) => writeln!(f, "(wait {number} ended {anchor})")?,
+/// The sheet, each line with its line feed.
+impl Display for Shown {
+    fn fmt(&self, f: &mut Formatter) -> fmt::Result {
+        writeln!(f, "(count{} {})", Numbers(&self.counters), self.epoch)?;
+        writeln!(f, "(current {})", OrNone(self.current))?;
+        writeln!(f, "(superseded {})", OrNone(self.superseded))?;
+        writeln!(f, "(installed {})", OrNone(self.installed))?;
+        writeln!(f, "(previous {})", OrNone(self.previous))?;
+        for (number, waiter) in self.waiters.iter().enumerate() {
+            match waiter {
+                Waiter::Free => {}
+                Waiter::Parked => writeln!(f, "(wait {number} parked)")?,
+                Waiter::Abandoned(anchor) => writeln!(f, "(wait {number} abandoned {anchor})")?,
+                Waiter::Ended(anchor) => writeln!(f, "(wait {number} ended {anchor})")?,
+            }
         }
+        Ok(())
     }
-    Ok(())
 }
 
 struct OrNone<T>(Option<T>);
@@ -96,21 +99,21 @@ impl Display for Anchor {
     }
 }
 
-impl Display for Head {
+impl Display for ShownHead {
     fn fmt(&self, f: &mut Formatter) -> fmt::Result {
-        let Self { anchor, handle, .. } = self;
+        let anchor = self.anchor;
         let parent = digits(&self.parent);
-        match (self.pose, self.end) {
-            (Pose::Unclaimed, End::Abandoned) => {
-                write!(f, "unclaimed {anchor} {parent} {handle} abandoned")
+        match self.stage {
+            Stage::Unclaimed { handle, abandoned } => {
+                let end = if abandoned { "abandoned" } else { "open" };
+                write!(f, "unclaimed {anchor} {parent} {handle} {end}")
             }
-            (Pose::Unclaimed, _) => write!(f, "unclaimed {anchor} {parent} {handle} open"),
-            (Pose::Preparing, _) => write!(f, "preparing {anchor} {parent} {handle}"),
-            (Pose::Settled, _) => {
+            Stage::Preparing { handle } => write!(f, "preparing {anchor} {parent} {handle}"),
+            Stage::Settled { report } => {
                 write!(
                     f,
                     "settled {anchor} {parent} {}",
-                    OrNone(self.report.map(Report))
+                    OrNone(report.map(Report))
                 )
             }
         }

@@ -50,16 +50,9 @@ impl Sides {
         published: Transcript,
     ) -> Result<Option<Difference>, String> {
         let mut run = self.program.run(script.text(), published.text().len())?;
-        let (names, expected) = match &self.beside {
-            Some(beside) => {
-                let text = printed(beside, &script, &published)?;
-                (["beside", "program"], published.printed_by_another(text))
-            }
-            None => {
-                run.output = without_numbers(&run.output);
-                (["oracle", "program, without settle numbers"], published)
-            }
-        };
+        run.output = self.comparable(run.output);
+        let expected = self.expected(&script, published)?;
+        let names = self.names();
         let line = expected.first_difference(&run.output);
         let ended_badly = run
             .failure
@@ -72,6 +65,35 @@ impl Sides {
             run,
             line,
         }))
+    }
+
+    /// What the program must answer to a script that the published code answers so.
+    pub(crate) fn expected(
+        &self,
+        script: &Script,
+        published: Transcript,
+    ) -> Result<Transcript, String> {
+        let Some(beside) = &self.beside else {
+            return Ok(published);
+        };
+        let text = printed(beside, script, &published)?;
+        Ok(published.printed_by_another(text))
+    }
+
+    /// The part of the program's output that is compared.
+    pub(crate) fn comparable(&self, output: Vec<u8>) -> Vec<u8> {
+        match self.beside {
+            Some(_) => output,
+            None => without_numbers(&output),
+        }
+    }
+
+    /// What the two sides are called.
+    pub(crate) const fn names(&self) -> [&'static str; 2] {
+        match self.beside {
+            Some(_) => ["beside", "program"],
+            None => ["oracle", "program, without settle numbers"],
+        }
     }
 }
 
@@ -132,7 +154,7 @@ impl Display for Difference {
 }
 
 /// Indented lines, with bytes that do not print written as escapes.
-fn put_text(f: &mut Formatter, text: &[u8]) -> fmt::Result {
+pub(crate) fn put_text(f: &mut Formatter, text: &[u8]) -> fmt::Result {
     let mut lines = text.split_inclusive(|byte| *byte == b'\n');
     for line in lines.by_ref().take(MOST_SHOWN) {
         let (line, feed) = match line.strip_suffix(b"\n") {

@@ -8,6 +8,7 @@ use crate::malformed::spoil;
 use crate::random::Random;
 use crate::script::{Script, Transcript};
 use harness::{Answer, Apply, Call, Oracle, Outcome, ReadAnchor, Skip, Start, B256, WAITERS};
+use model::{Anchor, Hash, Model, Shown, Stage, Waiter};
 
 /// What a script is made from.
 #[derive(Clone, Copy, Debug)]
@@ -86,6 +87,49 @@ pub(crate) fn further(lines: &Script, hashes: [B256; 7], seed: u64, calls: usize
     script
 }
 
+/// Lines aimed at where a driver stands, one at a time. A few are malformed.
+pub(crate) struct Aimed(Generator);
+
+/// Malformed lines in a thousand of these.
+const AIMED_MALFORMED: usize = 30;
+
+impl Aimed {
+    pub(crate) fn new(seed: u64) -> Self {
+        Self(Generator::new(seed, Start::default()))
+    }
+
+    /// A line for a driver that stands where the model does.
+    pub(crate) fn line(&mut self, model: &Model) -> Vec<u8> {
+        self.0.stand_at(&model.shown());
+        let mut line = Vec::new();
+        self.0.call().write(&mut line);
+        if self.0.random.below(1000) < AIMED_MALFORMED {
+            spoil(&mut line, &mut self.0.random);
+        }
+        line
+    }
+}
+
+fn anchor_of(anchor: Anchor) -> ReadAnchor {
+    ReadAnchor {
+        number: anchor.number,
+        hash: anchor.hash.map(hash_of),
+    }
+}
+
+/// The hash of these 64 digits.
+fn hash_of(digits: Hash) -> B256 {
+    let digit = |byte: u8| match byte {
+        b'a'..=b'f' => byte - b'a' + 10,
+        _ => byte - b'0',
+    };
+    let mut hash = B256::default();
+    for (byte, pair) in hash.0.iter_mut().zip(digits.chunks(2)) {
+        *byte = digit(pair[0]) << 4 | digit(pair[1]);
+    }
+    hash
+}
+
 /// How often a call is made at each [`Pose`], in parts of the sum, and its maker.
 type Weighted = ([usize; 3], fn(&mut Generator) -> Call);
 
@@ -153,6 +197,27 @@ impl Generator {
         };
         generator.move_on();
         generator
+    }
+
+    /// Learn from what a sheet shows what the next calls aim at.
+    fn stand_at(&mut self, shown: &Shown) {
+        self.seq = shown.counters[0];
+        self.epoch = shown.epoch;
+        let current = shown.current;
+        self.current = current.map(|head| (anchor_of(head.anchor), hash_of(head.parent)));
+        let waiting = shown.waiters.iter().find_map(|waiter| match waiter {
+            Waiter::Abandoned(anchor) | Waiter::Ended(anchor) => Some(*anchor),
+            Waiter::Free | Waiter::Parked => None,
+        });
+        self.replaced = shown.superseded.or(waiting).map(anchor_of);
+        self.installed = shown.installed.map(|held| anchor_of(held.anchor));
+        self.previous = shown.previous.map(|held| anchor_of(held.anchor));
+        self.pose = match current.map(|head| head.stage) {
+            None | Some(Stage::Settled { .. }) => Pose::Settled,
+            Some(Stage::Unclaimed { .. }) => Pose::Unclaimed,
+            Some(Stage::Preparing { .. }) => Pose::Preparing,
+        };
+        self.taken = shown.waiters.map(|waiter| waiter != Waiter::Free);
     }
 
     fn call(&mut self) -> Call {

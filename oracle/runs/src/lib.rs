@@ -2,6 +2,10 @@
 
 pub mod cases;
 pub mod compare;
+mod damage;
+mod damage_by_rule;
+mod damage_of_text;
+pub mod damaged;
 pub mod filter;
 mod forms;
 mod generator;
@@ -13,8 +17,10 @@ mod program;
 pub mod progress;
 mod random;
 pub mod recording;
+pub mod restart;
 mod script;
 mod scripts;
+mod sheet_file;
 pub mod sheets;
 mod shown;
 mod shrink;

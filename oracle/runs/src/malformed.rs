@@ -31,7 +31,7 @@ pub(crate) fn spoil(line: &mut Vec<u8>, random: &mut Random) {
 }
 
 /// The positions of `line` whose byte fits.
-fn positions(line: &[u8], fits: impl Fn(u8) -> bool) -> Vec<usize> {
+pub(crate) fn positions(line: &[u8], fits: impl Fn(u8) -> bool) -> Vec<usize> {
     let found = line.iter().enumerate().filter(|(_, byte)| fits(**byte));
     found.map(|(at, _)| at).collect()
 }
@@ -133,7 +133,7 @@ fn garbage(line: &mut Vec<u8>, random: &mut Random) {
 }
 
 /// The spans between spaces and brackets.
-fn words(line: &[u8]) -> Vec<std::ops::Range<usize>> {
+pub(crate) fn words(line: &[u8]) -> Vec<std::ops::Range<usize>> {
     let mut words = Vec::new();
     let mut start = 0;
     let ends = positions(line, |byte| matches!(byte, b' ' | b'(' | b')'));

@@ -1,4 +1,4 @@
-//! The command lines of `gen` and `compare`, and an option of `check` and `sheets`.
+//! The command lines of `gen`, `compare` and `restart`, and an option of `check` and `sheets`.
 
 use crate::compare::Sides;
 use crate::generator::Recipe;
@@ -11,7 +11,7 @@ use std::str::FromStr;
 /// The program writes no settle numbers, as the published code does not.
 pub const WITHOUT_NUMBERS: &str = "--without-numbers";
 
-/// What `compare` was asked.
+/// What `compare` or `restart` was asked.
 pub struct Comparison {
     pub scripts: Scripts,
     pub recipe: Recipe,
@@ -76,11 +76,10 @@ impl Comparison {
             }
         }
         let program = Program::new(arguments.collect())?;
-        let sides = Sides { program, beside };
         Ok(Self {
             scripts: scripts.ok_or("one of --seeds FROM TO, --short, --changed is needed")?,
             recipe,
-            sides: sides.starting_at(recipe.start),
+            sides: Sides { program, beside },
         })
     }
 }

@@ -77,6 +77,14 @@ impl Program {
         self
     }
 
+    /// The program told to start from the sheet in `file`.
+    #[must_use]
+    pub(crate) fn starting_from(&self, file: &str) -> Self {
+        let mut started = self.clone();
+        started.command.push(file.to_owned());
+        started
+    }
+
     /// Run the program on `input`, to which `expected` bytes should come out.
     /// Input is written while output is read, so neither side waits for a full
     /// pipe.
@@ -107,8 +115,7 @@ impl Program {
         })
     }
 
-    /// What the program prints on an input that a pipe holds whole: no thread
-    /// is needed for it, so many short runs go quickly.
+    /// What the program prints on an input that a pipe holds whole.
     ///
     /// # Errors
     ///
@@ -119,6 +126,24 @@ impl Program {
     /// If the input is longer.
     pub fn answers(&self, input: &[u8]) -> Result<Vec<u8>, String> {
         assert!(input.len() <= PIPE, "{} bytes", input.len());
+        let run = self.heard(input, 0)?;
+        match run.failure {
+            None => Ok(run.output),
+            Some(failure) => Err(format!("{self} ended with {failure}")),
+        }
+    }
+
+    /// Run the program on `input`, to which `expected` bytes should come out. An
+    /// input that a pipe holds whole needs no thread, so many short runs go
+    /// quickly, but then there is no time limit.
+    ///
+    /// # Errors
+    ///
+    /// One line, if the program cannot be started.
+    pub(crate) fn heard(&self, input: &[u8], expected: usize) -> Result<Run, String> {
+        if input.len() > PIPE {
+            return self.run(input, expected);
+        }
         let mut child = self.start()?;
         let mut stdin = child.stdin.take().expect("standard input is piped");
         // A program may stop reading early; what it printed tells.
@@ -127,12 +152,12 @@ impl Program {
         let mut output = Vec::new();
         let mut stdout = child.stdout.take().expect("standard output is piped");
         let read = stdout.read_to_end(&mut output);
-        let ended = read.and_then(|_| child.wait());
-        match ended {
-            Ok(status) if status.success() => Ok(output),
-            Ok(status) => Err(format!("{self} ended with {status}")),
-            Err(error) => Err(format!("{self}: {error}")),
-        }
+        let failure = match read.and_then(|_| child.wait()) {
+            Ok(status) if status.success() => None,
+            Ok(status) => Some(Failure::Status(status.to_string())),
+            Err(error) => Some(Failure::Status(error.to_string())),
+        };
+        Ok(Run { output, failure })
     }
 
     fn start(&self) -> Result<Child, String> {

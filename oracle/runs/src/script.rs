@@ -52,8 +52,14 @@ impl Script {
     /// One line without its line feed.
     #[must_use]
     pub fn line(&self, index: usize) -> &[u8] {
-        let line = &self.text[span(&self.ends, index)];
+        let line = self.whole(index);
         line.strip_suffix(b"\n").unwrap_or(line)
+    }
+
+    /// One line with its line feed, if it has one.
+    #[must_use]
+    pub(crate) fn whole(&self, index: usize) -> &[u8] {
+        &self.text[span(&self.ends, index)]
     }
 
     pub fn lines(&self) -> impl Iterator<Item = &[u8]> {

@@ -32,8 +32,9 @@ struct Totals {
 
 /// Compare what the command line asks for; false on a difference.
 fn run() -> Result<bool, String> {
-    let asked =
+    let mut asked =
         Comparison::read(env::args().skip(1)).map_err(|problem| format!("{problem}; {USAGE}"))?;
+    asked.sides = asked.sides.starting_at(asked.recipe.start);
     let mut progress = Progress::default();
     let mut totals = Totals::default();
     let difference = first_difference(&asked, &mut totals, &mut progress)?;

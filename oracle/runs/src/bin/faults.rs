@@ -1,8 +1,9 @@
 //! `faults MODEL`: how many lines the generator needs to find each fault that can be planted in the
 //! model, beside the published code or, where that has no settle numbers to differ in, beside the
-//! model without a fault.
+//! model without a fault; and how many damaged sheets find each fault in reading sheets.
 
 use runs::compare::Sides;
+use runs::damaged::{Search, Sheets};
 use runs::{Case, Program, Recipe, Scripts};
 use std::env;
 use std::process::{Command, ExitCode};
@@ -11,6 +12,15 @@ const USAGE: &str = "usage: faults MODEL";
 
 /// Seeds tried for each fault before it counts as not found.
 const SEEDS: u64 = 100;
+
+/// Damaged sheets tried for each fault in reading sheets.
+const SHEETS: u64 = 20_000;
+
+/// Lines that follow a damaged sheet that is taken.
+const AFTER_A_SHEET: usize = 12;
+
+/// How the names of the faults in reading sheets begin.
+const OF_SHEETS: &str = "sheet-";
 
 /// Every second seed starts here, so that counters reach their end: the sum of
 /// all calls of a script is greater than what is left.
@@ -37,18 +47,23 @@ fn run() -> Result<bool, String> {
     let mut found = 0;
     for fault in &faults {
         let program = Program::new(vec![model.clone(), "--fault".to_owned(), fault.clone()])?;
-        let published = Sides {
-            program,
-            beside: None,
+        let until_found = if fault.starts_with(OF_SHEETS) {
+            sheets_until_found(program)?
+        } else {
+            let published = Sides {
+                program,
+                beside: None,
+            };
+            let second = Sides {
+                beside: Some(Program::new(vec![model.clone()])?),
+                ..published.clone()
+            };
+            lines_until_found([published, second])?
         };
-        let second = Sides {
-            beside: Some(Program::new(vec![model.clone()])?),
-            ..published.clone()
-        };
-        match lines_until_found([published, second])? {
-            Some((lines, how)) => {
+        match until_found {
+            Some((count, how)) => {
                 found += 1;
-                println!("{lines:>9}  {fault}{how}");
+                println!("{count:>9}  {fault}{how}");
             }
             None => println!("not found  {fault}"),
         }
@@ -67,6 +82,21 @@ fn names(model: &str) -> Result<Vec<String>, String> {
 
 /// What stands behind a fault by the side on which it was found.
 const HOW: [&str; 2] = ["", ", beside the model"];
+
+/// The number of damaged sheets up to the first that the model with the fault judges otherwise or
+/// goes on from otherwise.
+fn sheets_until_found(program: Program) -> Result<Option<(usize, &'static str)>, String> {
+    let search = Search {
+        program,
+        sheets: Sheets::Numbered {
+            from: 1,
+            to: SHEETS,
+        },
+        lines: AFTER_A_SHEET,
+    };
+    let (searched, found) = search.run()?;
+    Ok(found.map(|_| (searched.sheets, ", damaged sheets")))
+}
 
 /// The number of lines up to the first that differs, scripts before it with, and how it was found:
 /// each script is tried on the first sides, then on the second.
