@@ -9,7 +9,7 @@ use Rattle.head_driver.specs.Answers.{said, stats_values}
 use Rattle.head_ready.specs.Said.{outcome_said}
 use Rattle.script_back.proofs.Counters.{spaced_back, spaced_run, stats_back}
 use Rattle.script_back.proofs.Outcomes.{end_back, link_back, outcome_back, readiness_back, report_back, source_back, settle_number_back}
-use Rattle.value_text.proofs.Back.{anchor_back, slot_back}
+use Rattle.value_text.proofs.Back.{sheet_anchor_back, sheet_slot_back}
 use Rattle.head_values.specs.Ranges.{AnchorFits, OutcomeFits, SlotFits}
 use Rattle.hash.specs.Ranges.{Fits}
 use Rattle.head_ready.specs.Ranges.{ReadinessFits, SourceFits}
@@ -37,7 +37,6 @@ use Rattle.head_driver.specs.declared.Answer.{Answer}
 use Rattle.head_ready.specs.declared.HeadOutcome.{HeadOutcome}
 use Rattle.head_ready.specs.declared.HeadView.{HeadView}
 use Rattle.head_ready.specs.declared.Source.{Source}
-use Rattle.value_text.specs.declared.page.Page.{Page}
 use Rattle.answer_back.specs.Ranges.{AnswerFits, HeadOutcomeFits}
 use Rattle.answer_back.specs.Reads.{answer_named, read_answer, read_foreign, read_heads, read_refused, read_view, refused_by}
 use Rattle.answer_back.specs.Statements.{Injective, ReadBack}
@@ -105,9 +104,9 @@ unfolding answer_named same_text word_text then map after after_byte run in_word
 stats_line_back s f = simp stats_back
 
 heads_back : (c i p : Option ReadAnchor) → SlotFits c → SlotFits i → SlotFits p
-    → Reads (ascii "heads") (ascii " " ++ (slot_text Page.Line c ++ (ascii " " ++ (slot_text Page.Line i ++ (ascii " " ++ (slot_text Page.Line p ++ ascii ")\n")))))) (Answer.Heads c i p)
+    → Reads (ascii "heads") (ascii " " ++ (slot_text c ++ (ascii " " ++ (slot_text i ++ (ascii " " ++ (slot_text p ++ ascii ")\n")))))) (Answer.Heads c i p)
 unfolding answer_named read_heads same_text word_text then after after_byte run in_word
-heads_back c i p f g h = simp (slot_back, f, g, h)
+heads_back c i p f g h = simp (sheet_slot_back, f, g, h)
 
 -- ---- refused
 
@@ -119,14 +118,14 @@ refused_back : (n : ℕ) (t : List ℕ) (a : Answer) → Fits n → run t ≡ 0 
 unfolding answer_named same_text word_text read_refused
 refused_back n t a f z e = rw (spaced_back n t f z) e
 
-superseded_back : (a : ReadAnchor) → AnchorFits a → Refused 11 (ascii " " ++ (anchor_text Page.Line a ++ ascii ")\n")) (Answer.Outcome (HeadOutcome.Superseded a))
+superseded_back : (a : ReadAnchor) → AnchorFits a → Refused 11 (ascii " " ++ (anchor_text a ++ ascii ")\n")) (Answer.Outcome (HeadOutcome.Superseded a))
 unfolding refused_by then map after after_byte
-superseded_back a f = simp anchor_back
+superseded_back a f = simp sheet_anchor_back
 
 foreign_back : (list held : ReadAnchor) → AnchorFits list → AnchorFits held
-    → Refused 12 (ascii " " ++ (anchor_text Page.Line list ++ (ascii " " ++ (anchor_text Page.Line held ++ ascii ")\n")))) (Answer.Outcome (HeadOutcome.Foreign list held))
+    → Refused 12 (ascii " " ++ (anchor_text list ++ (ascii " " ++ (anchor_text held ++ ascii ")\n")))) (Answer.Outcome (HeadOutcome.Foreign list held))
 unfolding refused_by read_foreign then after after_byte
-foreign_back list held f g = simp anchor_back
+foreign_back list held f g = simp sheet_anchor_back
 
 -- ---- lines
 
@@ -138,22 +137,22 @@ number_refused : (n : ℕ) (t : List ℕ) (a : Answer) → Fits n → run t ≡ 
 unfolding run in_word
 number_refused n t a f z e = named (ascii "refused") (spaced_text n ++ t) refl (spaced_run n t) ∙ refused_back n t a f z e
 
-outcome_line : (o : HeadOutcome) → HeadOutcomeFits o → Line (word_text (outcome_said o).word) (refusal_on (outcome_said o).number (values_on Page.Line (outcome_said o).values (ascii ")\n"))) (Answer.Outcome o)
+outcome_line : (o : HeadOutcome) → HeadOutcomeFits o → Line (word_text (outcome_said o).word) (refusal_on (outcome_said o).number (values_on (outcome_said o).values (ascii ")\n"))) (Answer.Outcome o)
 unfolding outcome_said word_text refusal_on values_on value_text spaced_text anchor_text outcome_text refused_by then after after_byte run in_word
 outcome_line (HeadOutcome.Settled o) f = named (ascii "settled") (ascii " " ++ (outcome_text o ++ ascii ")\n")) refl refl ∙ settled_back o f
 outcome_line HeadOutcome.AlreadySettled f = number_refused 13 (ascii ")\n") _ (omega arith) refl refl
 outcome_line HeadOutcome.InFlight f = number_refused 14 (ascii ")\n") _ (omega arith) refl refl
-outcome_line (HeadOutcome.Superseded a) f = number_refused 11 (ascii " " ++ (anchor_text Page.Line a ++ ascii ")\n")) _ (omega arith) refl (superseded_back a f)
-outcome_line (HeadOutcome.Foreign list held) f = number_refused 12 (ascii " " ++ (anchor_text Page.Line list ++ (ascii " " ++ (anchor_text Page.Line held ++ ascii ")\n")))) _ (omega arith) refl (foreign_back list held f.0 f.1)
+outcome_line (HeadOutcome.Superseded a) f = number_refused 11 (ascii " " ++ (anchor_text a ++ ascii ")\n")) _ (omega arith) refl (superseded_back a f)
+outcome_line (HeadOutcome.Foreign list held) f = number_refused 12 (ascii " " ++ (anchor_text list ++ (ascii " " ++ (anchor_text held ++ ascii ")\n")))) _ (omega arith) refl (foreign_back list held f.0 f.1)
 
-stats_said : (s : HeadStats) → StatsFit s → Line (ascii "stats") (values_on Page.Line (stats_values s) (ascii ")\n")) (Answer.Stats s)
+stats_said : (s : HeadStats) → StatsFit s → Line (ascii "stats") (values_on (stats_values s) (ascii ")\n")) (Answer.Stats s)
 unfolding stats_text stats_values values_on run in_word
 stats_said s f =
-    ap (λ (t : List ℕ). read_answer (at (ascii "(" ++ (ascii "stats" ++ t)))) (sym (values_then Page.Line (stats_values s) (ascii ")\n")))
+    ap (λ (t : List ℕ). read_answer (at (ascii "(" ++ (ascii "stats" ++ t)))) (sym (values_then (stats_values s) (ascii ")\n")))
     ∙ named (ascii "stats") (stats_text s ++ ascii ")\n") refl refl
     ∙ stats_line_back s f
 
-said_back : (a : Answer) → AnswerFits a → Line (word_text (said a).word) (refusal_on (said a).number (values_on Page.Line (said a).values (ascii ")\n"))) a
+said_back : (a : Answer) → AnswerFits a → Line (word_text (said a).word) (refusal_on (said a).number (values_on (said a).values (ascii ")\n"))) a
 unfolding said word_text refusal_on values_on value_text spaced_text slot_text source_text readiness_text end_text link_text report_text refused_by then after after_byte run in_word
 said_back (Answer.Ticket n) f = named (ascii "ticket") (spaced_text n.0 ++ ascii ")\n") refl refl ∙ ticket_back n.0 f
 said_back (Answer.Claimed e) f = named (ascii "claimed") (spaced_text e.0 ++ ascii ")\n") refl refl ∙ claimed_back e.0 f
@@ -169,7 +168,7 @@ said_back (Answer.Link link) f = named (ascii "link") (ascii " " ++ (link_text l
 said_back (Answer.Report r) f = named (ascii "report") (ascii " " ++ (report_text r ++ ascii ")\n")) refl refl ∙ report_line_back r f
 said_back (Answer.Stats s) f = stats_said s f
 said_back (Answer.Heads c i p) f =
-    named (ascii "heads") (ascii " " ++ (slot_text Page.Line c ++ (ascii " " ++ (slot_text Page.Line i ++ (ascii " " ++ (slot_text Page.Line p ++ ascii ")\n")))))) refl refl
+    named (ascii "heads") (ascii " " ++ (slot_text c ++ (ascii " " ++ (slot_text i ++ (ascii " " ++ (slot_text p ++ ascii ")\n")))))) refl refl
     ∙ heads_back c i p f.0 f.1 f.2
 said_back Answer.ListDisagrees f = number_refused 2 (ascii ")\n") _ (omega arith) refl refl
 said_back Answer.WaiterAbove15 f = number_refused 3 (ascii ")\n") _ (omega arith) refl refl

@@ -16,26 +16,25 @@ use Rattle.text.specs.Decimals.{decimal}
 use Rattle.text.specs.Rests.{after, at, after_byte}
 use Rattle.text.specs.Words.{run}
 use Rattle.head_driver.specs.declared.Answer.{Answer}
-use Rattle.value_text.specs.declared.page.Page.{Page}
 use Rattle.answer_back.specs.Reads.{answer_named, read_answer}
 
-values_append : (p : Page) (vs : List Value) (s t : List ℕ) → values_on p vs s ++ t ≡ values_on p vs (s ++ t)
+values_append : (vs : List Value) (s t : List ℕ) → values_on vs s ++ t ≡ values_on vs (s ++ t)
 unfolding values_on
-values_append p [] s t = refl
-values_append p (v ∷ vs) s t =
-    let e : value_text p v ++ (values_on p vs s ++ t) ≡ value_text p v ++ values_on p vs (s ++ t) = rw (values_append p vs s t) in
-    ap (λ (r : List ℕ). ascii " " ++ r) (append_assoc (value_text p v) (values_on p vs s) t ∙ e)
+values_append [] s t = refl
+values_append (v ∷ vs) s t =
+    let e : value_text v ++ (values_on vs s ++ t) ≡ value_text v ++ values_on vs (s ++ t) = rw (values_append vs s t) in
+    ap (λ (r : List ℕ). ascii " " ++ r) (append_assoc (value_text v) (values_on vs s) t ∙ e)
 
 refusal_append : (n : ℕ) (s t : List ℕ) → refusal_on n s ++ t ≡ refusal_on n (s ++ t)
 unfolding refusal_on
 refusal_append zero s t = refl
 refusal_append (suc n) s t = ap (λ (r : List ℕ). ascii " " ++ r) (append_assoc (decimal (suc n)) s t)
 
-pub line_form : (a : Answer) → answer_line a ≡ ascii "(" ++ (word_text (said a).word ++ refusal_on (said a).number (values_on Page.Line (said a).values (ascii ")\n")))
+pub line_form : (a : Answer) → answer_line a ≡ ascii "(" ++ (word_text (said a).word ++ refusal_on (said a).number (values_on (said a).values (ascii ")\n")))
 unfolding answer_line answer_text said_text
 line_form a =
     let s = said a in
-    let e : refusal_on s.number (values_on Page.Line s.values (ascii ")")) ++ ascii "\n" ≡ refusal_on s.number (values_on Page.Line s.values (ascii ")\n")) = refusal_append s.number _ _ ∙ ap (refusal_on s.number) (values_append Page.Line s.values (ascii ")") (ascii "\n")) in
+    let e : refusal_on s.number (values_on s.values (ascii ")")) ++ ascii "\n" ≡ refusal_on s.number (values_on s.values (ascii ")\n")) = refusal_append s.number _ _ ∙ ap (refusal_on s.number) (values_append s.values (ascii ")") (ascii "\n")) in
     ap (λ (r : List ℕ). ascii "(" ++ r) (append_assoc (word_text s.word) _ (ascii "\n") ∙ ap (λ (r : List ℕ). word_text s.word ++ r) e)
 
 pub named : (w t : List ℕ) → run w ≡ length w → run t ≡ 0 → read_answer (at (ascii "(" ++ (w ++ t))) ≡ then (ascii ")\n") (answer_named w (at t))

@@ -1,4 +1,4 @@
--- Reading an answer's line.
+-- Reading an answer's line. Its hashes are written as a sheet's are, and so read as strictly.
 use Rattle.std.specs.Prelude.{ℕ, List, eqb, cond}
 use Rattle.head_values.specs.Words.{Word}
 use Rattle.head_count.specs.Counters.{epoch_of, seq_of}
@@ -27,15 +27,15 @@ read_view r =
 
 unfoldable pub read_heads : Rest → Took Answer
 read_heads r =
-    let current = read_slot Page.Line (after (ascii " ") r) in
-    let installed = read_slot Page.Line (after (ascii " ") current.next) in
-    let previous = read_slot Page.Line (after (ascii " ") installed.next) in
+    let current = read_slot Page.Sheet (after (ascii " ") r) in
+    let installed = read_slot Page.Sheet (after (ascii " ") current.next) in
+    let previous = read_slot Page.Sheet (after (ascii " ") installed.next) in
     got (Answer.Heads current.value installed.value previous.value) previous.next
 
 unfoldable pub read_foreign : Rest → Took Answer
 read_foreign r =
-    let list = read_anchor Page.Line (after (ascii " ") r) in
-    let held = read_anchor Page.Line (after (ascii " ") list.next) in
+    let list = read_anchor Page.Sheet (after (ascii " ") r) in
+    let held = read_anchor Page.Sheet (after (ascii " ") list.next) in
     got (Answer.Outcome (HeadOutcome.Foreign list.value held.value)) held.next
 
 abbrev pub superseded_by : ReadAnchor → Answer
@@ -50,7 +50,7 @@ unfoldable pub refused_by : ℕ → Rest → Took Answer
 refused_by n r =
     cond (eqb n 2) (got Answer.ListDisagrees r)
     (cond (eqb n 3) (got Answer.WaiterAbove15 r)
-    (cond (eqb n 11) (map superseded_by (read_anchor Page.Line (after (ascii " ") r)))
+    (cond (eqb n 11) (map superseded_by (read_anchor Page.Sheet (after (ascii " ") r)))
     (cond (eqb n 12) (read_foreign r)
     (cond (eqb n 13) (got (Answer.Outcome HeadOutcome.AlreadySettled) r)
     (cond (eqb n 14) (got (Answer.Outcome HeadOutcome.InFlight) r)

@@ -40,8 +40,8 @@ use Rattle.text.specs.Same
 use Rattle.text.specs.Words
 use Rattle.hash_text.specs.Hex
 use Rattle.hash_text.specs.LineHashes
-use Rattle.hash_text.specs.Reads as HashReads
 use Rattle.hash_text.specs.SheetHashes
+use Rattle.hash_text.specs.Texts as HashTexts
 use Rattle.script_call.specs.Values as CallValues
 use Rattle.script_call.specs.Calls as CallLines
 use Rattle.value_text.specs.Reads as ValueReads
@@ -92,14 +92,14 @@ calls = tt
 unfoldable words : Unit {0}
 unfolding Decimals.decimal_on Decimals.decimal Decimals.digit Decimals.more Decimals.number Digits.read_on Rests.after_byte Rests.after Rests.word_here Rests.says Rests.past
     Rests.past_word Rests.at_end Rests.number_got Rests.read_number Same.same_text Words.in_word Words.run Words.word Hex.glyph Hex.hex_on Hex.hex Hex.hex_text
-    Hex.digit_value Hex.join_digit Hex.hex_more Hex.hex_number Hex.joined Hex.hex_hash LineHashes.line_hash_text LineHashes.line_hash HashReads.hash_got HashReads.read_hash
-    HashReads.read_sheet_hash SheetHashes.sheet_hash_text SheetHashes.sheet_hash
+    Hex.digit_value Hex.join_digit Hex.hex_more Hex.hex_number Hex.joined Hex.hex_hash HashTexts.hash_prefix HashTexts.hash_text
+    LineHashes.line_hash SheetHashes.sheet_hash
 words = tt
 
 -- call lines
 unfoldable lines : Unit {0}
-unfolding ValueReads.or_word ValueReads.map ValueReads.then ValueReads.hash_said ValueReads.block_hash_got ValueReads.read_block_hash ValueReads.read_anchor
-    ValueReads.read_slot ValueReads.spaced_number ValueReads.read_failure ValueReads.read_skip CallValues.spaced_hash CallValues.spaced_anchor CallValues.spaced_slot
+unfolding ValueReads.or_word ValueReads.map ValueReads.then ValueReads.hash_said ValueReads.hash_got ValueReads.read_hash
+    ValueReads.read_block_hash ValueReads.read_anchor ValueReads.read_slot ValueReads.spaced_number ValueReads.read_failure ValueReads.read_skip CallValues.spaced_hash CallValues.spaced_anchor CallValues.spaced_slot
     CallValues.spaced_skip CallLines.ends CallLines.closed CallLines.spaced_ticket CallLines.spaced_list CallLines.deliver_call CallLines.claim_call
     CallLines.release_call CallLines.apply_call CallLines.snapshot_call CallLines.wait_call CallLines.resume_call CallLines.completion_call CallLines.link_call
     CallLines.report_call CallLines.stats_call CallLines.heads_call CallLines.sheet_call CallLines.later_named CallLines.call_named CallLines.call_here CallLines.call
@@ -107,8 +107,8 @@ lines = tt
 
 -- answer lines
 unfoldable answers : Unit {0}
-unfolding ValueTexts.block_hash_text ValueTexts.anchor_text ValueTexts.slot_text CounterTexts.spaced_text CounterTexts.four_text CounterTexts.stats_text ValueForms.hash_text
-    ValueForms.value_text ValueForms.values_on WordTexts.word_text ValueTexts.link_text ValueTexts.fault_text ValueTexts.skip_text OutcomeTexts.cold_text
+unfolding ValueTexts.block_hash_text ValueTexts.anchor_text ValueTexts.slot_text CounterTexts.spaced_text CounterTexts.four_text
+    CounterTexts.stats_text ValueForms.value_text ValueForms.values_on WordTexts.word_text ValueTexts.link_text ValueTexts.fault_text ValueTexts.skip_text OutcomeTexts.cold_text
     OutcomeTexts.outcome_text OutcomeTexts.report_text OutcomeTexts.reason_text
     OutcomeTexts.readiness_text OutcomeTexts.source_text OutcomeTexts.settle_number_text OutcomeTexts.end_text
     AnswerTexts.refusal_on AnswerTexts.said_text AnswerTexts.answer_text AnswerLines.answer_line

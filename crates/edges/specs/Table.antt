@@ -1,15 +1,19 @@
--- Document 01, "Edges": E1 to E12, in the writing of document 02, Job 1. Each is a run from a new driver; beside each line stands what it prints.
+-- Document 01, "Edges": E1 to E12, in the writing of document 02, Jobs 1 and 3. Each is a run from a new driver; beside each line stands
+-- what it prints.
 use Rattle.std.specs.Prelude.{ℕ, List, [], ◌∷◌, ◌++◌}
 use Rattle.text.specs.Ascii.{ascii}
 use Rattle.edges.specs.Runs.{Line}
 
--- Z is 64 zeros
+-- Z is `0x` and 64 zeros
 abbrev Z : List ℕ
-Z = ascii "0000000000000000000000000000000000000000000000000000000000000000"
+Z = ascii "0x0000000000000000000000000000000000000000000000000000000000000000"
 
--- Y is another hash
+-- Y is another hash, as it is written; typed_Y the same hash, as a desk may type it
 abbrev Y : List ℕ
-Y = ascii "00000000000000000000000000000000000000000000000000000000000000a1"
+Y = ascii "0x00000000000000000000000000000000000000000000000000000000000000a1"
+
+abbrev typed_Y : List ℕ
+typed_Y = ascii "0x00000000000000000000000000000000000000000000000000000000000000A1"
 
 infix 1 ◌prints◌
 abbrev ◌prints◌ : List ℕ → List ℕ → Line
@@ -24,7 +28,7 @@ table =
     ∷ ((ascii "(link (9 none) (10 none) " ++ Z ++ ascii ")" prints ascii "(link hash-unknown)\n")
     ∷ [])
     -- E3 other hash: hash-mismatch
-    ∷ ((ascii "(link (9 " ++ Z ++ ascii ") (10 none) " ++ Y ++ ascii ")" prints ascii "(link hash-mismatch)\n")
+    ∷ ((ascii "(link (9 " ++ Z ++ ascii ") (10 none) " ++ typed_Y ++ ascii ")" prints ascii "(link hash-mismatch)\n")
     ∷ [])
     -- E4 equal: linked
     ∷ ((ascii "(link (9 " ++ Z ++ ascii ") (10 none) " ++ Z ++ ascii ")" prints ascii "(link linked)\n")
@@ -41,7 +45,7 @@ table =
     ∷ [])
     -- E7 same anchor, other parent hash: ticket 2, superseded 1
     ∷ ((ascii "(deliver (7 none) " ++ Z ++ ascii " 50)" prints ascii "(ticket 1)\n")
-    ∷ (ascii "(deliver (7 none) " ++ Y ++ ascii " 51)" prints ascii "(ticket 2)\n")
+    ∷ (ascii "(deliver (7 none) " ++ typed_Y ++ ascii " 51)" prints ascii "(ticket 2)\n")
     ∷ (ascii "(stats)" prints ascii "(stats 2 0 1 0 0 0 0 0)\n")
     ∷ [])
     -- E8 same parent: ticket 1, repeated 1
@@ -76,14 +80,14 @@ table =
     ∷ (ascii "(sheet)" prints ascii "(count 1 0 0 1 0 0 0 2 2)\n(current settled (7 none) " ++ Z ++ ascii " ((cold no-parent no-hash) 90))\n(superseded none)\n(installed (7 none) 60 1 (cold no-parent no-hash))\n(previous none)\n")
     ∷ [])
     -- E12 abandoned, then a carried retry, then resume: spare, `abandoned`, ready-views plus 1
-    ∷ ((ascii "(deliver (9 " ++ Z ++ ascii ") " ++ Y ++ ascii " 50)" prints ascii "(ticket 1)\n")
+    ∷ ((ascii "(deliver (9 " ++ Z ++ ascii ") " ++ typed_Y ++ ascii " 50)" prints ascii "(ticket 1)\n")
     ∷ (ascii "(apply (9 " ++ Z ++ ascii ") 1 (9 " ++ Z ++ ascii ") none 60 0 90)" prints ascii "(settled (cold no-parent none))\n")
-    ∷ (ascii "(deliver (10 " ++ Y ++ ascii ") " ++ Z ++ ascii " 51)" prints ascii "(ticket 2)\n")
+    ∷ (ascii "(deliver (10 " ++ typed_Y ++ ascii ") " ++ Z ++ ascii " 51)" prints ascii "(ticket 2)\n")
     ∷ (ascii "(claim (10 " ++ Y ++ ascii ") 2)" prints ascii "(claimed 1)\n")
     ∷ (ascii "(wait 0 (10 " ++ Y ++ ascii ") 52)" prints ascii "(parked)\n")
     ∷ (ascii "(release 2 1)" prints ascii "(done)\n")
-    ∷ (ascii "(claim (10 " ++ Y ++ ascii ") 2)" prints ascii "(claimed 2)\n")
-    ∷ (ascii "(apply (10 " ++ Y ++ ascii ") 2 (10 " ++ Y ++ ascii ") none 61 1 91)" prints ascii "(settled (carried 1))\n")
+    ∷ (ascii "(claim (10 " ++ typed_Y ++ ascii ") 2)" prints ascii "(claimed 2)\n")
+    ∷ (ascii "(apply (10 " ++ Y ++ ascii ") 2 (10 " ++ typed_Y ++ ascii ") none 61 1 91)" prints ascii "(settled (carried 1))\n")
     ∷ (ascii "(stats)" prints ascii "(stats 2 0 0 2 0 0 0 0)\n")
     ∷ (ascii "(resume 0 53)" prints ascii "(view spare 53 abandoned)\n")
     ∷ (ascii "(stats)" prints ascii "(stats 2 0 0 2 0 0 1 0)\n")

@@ -1,2 +1,3 @@
--- Values: the steps of the functions.
+-- The steps of the functions: Values, of those that value digits; Words, of those that read a word.
 pub mod Values
+pub mod Words

@@ -7,13 +7,14 @@ use mathlib.Core.Path.{◌≡◌, refl, ap, sym, ◌∙◌}
 use mathlib.Core.List.{List, [], ◌∷◌, ◌++◌, map, append_assoc, append-nil}
 use lib.ListN.{length, take, drop, get_or, set, length-set, length-take, drop_of_length-le}
 use lib.Seq.{drop-cons, take-suc-set, take_all}
+use Rattle.std.specs.Char.{to_ascii_lowercase}
 use Rattle.std.specs.Prelude.{Option, Some, None, unwrap_or}
 use Rattle.hash.specs.declared.Hash.{Hash}
 use Rattle.text.specs.Digits.{read_on}
-use Rattle.hash_text.specs.Hex.{glyph, hex_on, hex, hex_text, digit_value, hex_more, hex_number, joined}
-use Rattle.hash_text.specs.LineHashes.{line_hash, line_hash_text}
+use Rattle.hash_text.specs.Hex.{glyph, hex_on, hex, hex_text, digit_value, hex_more, hex_hash, hex_number, joined}
 use Rattle.hash_text.proofs.HexRead.{value_glyph, more_value, hash_long}
-use Rattle.hash_text.proofs.Only.{line_hash_only}
+use Rattle.hash_text.proofs.Back.{value_lowercase}
+use Rattle.hash_text.proofs.Only.{hex_hash_only}
 use Rattle.hash_read.specs.Values.{value_of, largest, number_on}
 
 -- ---- one byte
@@ -139,19 +140,25 @@ largest_hex : (n : ℕ) → largest (hex n) ≤ 15
 unfolding hex largest
 largest_hex n = largest_hex_on 16 n [] (omega arith)
 
-largest_text : (h : Hash) → largest (line_hash_text h) ≤ 15
-unfolding line_hash_text hex_text
+largest_text : (h : Hash) → largest (hex_text h) ≤ 15
+unfolding hex_text
 largest_text h = largest_both _ _ (largest_hex h.w0) (largest_both _ _ (largest_hex h.w1) (largest_both _ _ (largest_hex h.w2) (largest_hex h.w3)))
 
--- ---- a word
+-- a row of digits has the values of its lowercase
+largest_lowercase : (s : List ℕ) → largest (map to_ascii_lowercase s) ≡ largest s
+unfolding largest value_of
+largest_lowercase [] = refl
+largest_lowercase (b ∷ s) = rw (value_lowercase b, largest_lowercase s) refl
+
+-- ---- a row of digits
 
 module _ (s vs : List ℕ) (most : ℕ) (e : vs ≡ map value_of s) (f : most ≡ largest s) where
-  pub not_digits : 15 < most → None ≡ line_hash s
-  not_digits h = go (line_hash s) refl
+  pub not_digits : 15 < most → None ≡ hex_hash s
+  not_digits h = go (hex_hash s) refl
     where
-      go : (r : Option Hash) → line_hash s ≡ r → None ≡ r
+      go : (r : Option Hash) → hex_hash s ≡ r → None ≡ r
       go None p = refl
-      go (Some w) p = absurd (omega (arith, largest_text w, ap largest (line_hash_only s w p).0))
+      go (Some w) p = absurd (omega (arith, largest_text w, largest_lowercase s, ap largest (hex_hash_only s w p).0))
 
   module _ (h : most ≤ 15) where
     pub part_below : (i : ℕ) → number_on 0 (take 16 (drop i vs)) < 2 ^ 64
@@ -161,6 +168,9 @@ module _ (s vs : List ℕ) (most : ℕ) (e : vs ≡ map value_of s) (f : most �
     unfolding hex_number
     part_number i n p = rw (p, e, map_drop i s, map_take 16 (drop i s)) (sym (part s i (omega arith)).number)
 
-    pub all_digits : (a b c d : ℕ) → length s ≡ 64 → a ≡ number_on 0 (take 16 (drop 0 vs)) → b ≡ number_on 0 (take 16 (drop 16 vs)) → c ≡ number_on 0 (take 16 (drop 32 vs)) → d ≡ number_on 0 (take 16 (drop 48 vs)) → Some (record { w0 = a; w1 = b; w2 = c; w3 = d }) ≡ line_hash s
-    unfolding line_hash joined
+    pub all_digits : (a b c d : ℕ) → length s ≡ 64
+        → a ≡ number_on 0 (take 16 (drop 0 vs)) → b ≡ number_on 0 (take 16 (drop 16 vs))
+        → c ≡ number_on 0 (take 16 (drop 32 vs)) → d ≡ number_on 0 (take 16 (drop 48 vs))
+        → Some (record { w0 = a; w1 = b; w2 = c; w3 = d }) ≡ hex_hash s
+    unfolding joined
     all_digits a b c d l p q r t = hash_long s (Some a) (Some b) (Some c) (Some d) _ l (part_number 0 a p) (part_number 16 b q) (part_number 32 c r) (part_number 48 d t) refl

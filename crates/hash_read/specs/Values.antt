@@ -1,4 +1,4 @@
--- The way of `read_hash`: the values of all digits first, with the largest of them, then the numbers.
+-- The way of `hex_hash`: the values of all digits first, with the largest of them, then the numbers.
 use Rattle.std.specs.Prelude.{ℕ, ◌+◌, ◌*◌, max, List, [], ◌∷◌, unwrap_or}
 use Rattle.hash_text.specs.Hex.{digit_value}
 

@@ -1,21 +1,25 @@
-// The hash that a word of a line says.
+// The hash that a word says, on a line and on a sheet.
 // Knows nothing of where the word stands, nor of how a hash is written.
 #![tactic(auto)]
 
 ghost use Rattle.std.specs.Prelude.{◌<◌, ◌^◌, ◌≡◌, map, length};
-ghost use Rattle.hash_text.specs.Hex.{digit_value};
+ghost use Rattle.std.specs.Char.{is_ascii_uppercase};
+ghost use Rattle.std.specs.List.{list_any};
+ghost use Rattle.hash_text.specs.Hex.{digit_value, hex_hash};
 ghost use Rattle.hash_text.specs.LineHashes.{line_hash};
+ghost use Rattle.hash_text.specs.SheetHashes.{sheet_hash};
 ghost use Rattle.hash_read.specs.Values.{value_of, largest, number_on};
 
 use hash::Hash;
 
-#[tactic(auto, using(hash_text::proofs::HexRead::value_decimal, hash_text::proofs::HexRead::value_letter, hash_text::proofs::HexRead::value_low, hash_text::proofs::HexRead::value_middle, hash_text::proofs::HexRead::value_high))]
+#[tactic(auto, unfolding(hash_text::specs::Hex::digit_value))]
 pub(crate) fn digit_value(b: u8) -> Option<u8>
     ensures { result ≡ digit_value b }
 {
     match b {
         b'0'..=b'9' => Some(b - b'0'),
         b'a'..=b'f' => Some(b - b'a' + 10),
+        b'A'..=b'F' => Some(b - b'A' + 10),
         _ => None,
     }
 }
@@ -59,17 +63,16 @@ pub(crate) fn number(values: &[u8]) -> u64
     n
 }
 
-// What a word of a line says as a hash: sixteen digits for each of the four 64-bit words. For a caller that has the word in hand,
-// since it may as well be a keyword.
-#[tactic(auto, using(hash_text::proofs::HexRead::hash_short, crate::proofs::Values::not_digits, crate::proofs::Values::part_below, crate::proofs::Values::all_digits), unfolding(hash_text::specs::LineHashes::line_hash))]
-pub fn read_hash(word: &[u8]) -> Option<Hash>
-    ensures { result ≡ line_hash word.now }
+// The hash that a row of digits says: sixteen for each of the four 64-bit words.
+#[tactic(auto, using(hash_text::proofs::HexRead::hash_short, crate::proofs::Values::not_digits, crate::proofs::Values::part_below, crate::proofs::Values::all_digits))]
+pub(crate) fn hex_hash(digits: &[u8]) -> Option<Hash>
+    ensures { result ≡ hex_hash digits.now }
 {
-    if word.len() != 64 {
+    if digits.len() != 64 {
         return None;
     }
     let mut values = [0u8; 64];
-    if put_values(word, &mut values) > 15 {
+    if put_values(digits, &mut values) > 15 {
         return None;
     }
     let w0 = number(&values[0..16]);
@@ -77,4 +80,32 @@ pub fn read_hash(word: &[u8]) -> Option<Hash>
     let w2 = number(&values[32..48]);
     let w3 = number(&values[48..64]);
     Some(Hash { w0, w1, w2, w3 })
+}
+
+// What a word of a line says as a hash. For a caller that has the word in hand, since it may as well be a keyword.
+#[tactic(auto, using(crate::proofs::Words::prefix_stands, crate::proofs::Words::too_short, crate::proofs::Words::other_first, crate::proofs::Words::other_second))]
+pub fn line_hash(word: &[u8]) -> Option<Hash>
+    ensures { result ≡ line_hash word.now }
+{
+    match word {
+        [b'0', b'x', digits @ ..] => hex_hash(digits),
+        _ => None,
+    }
+}
+
+pub(crate) fn has_capital(word: &[u8]) -> bool
+    ensures { result ≡ list_any is_ascii_uppercase word.now }
+{
+    word.iter().any(|b| b.is_ascii_uppercase())
+}
+
+// What a word of a sheet says as a hash.
+#[tactic(auto, unfolding(hash_text::specs::SheetHashes::sheet_hash))]
+pub fn sheet_hash(word: &[u8]) -> Option<Hash>
+    ensures { result ≡ sheet_hash word.now }
+{
+    if has_capital(word) {
+        return None;
+    }
+    line_hash(word)
 }

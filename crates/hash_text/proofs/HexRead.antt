@@ -5,10 +5,14 @@ use native.Mathlib.Omega.{arith}
 use native.Mathlib.Decide.{dec_lt}
 use mathlib.Core.Logic.{by_cases}
 use mathlib.Core.Path.{◌≡◌, refl, ap, sym, ◌∙◌}
-use mathlib.Core.Bool.{true}
+use mathlib.Core.Bool.{Bool, false, true}
 use mathlib.Core.List.{List, [], ◌∷◌, ◌++◌}
 use lib.ListN.{length, take, drop, length-append}
 use lib.Seq.{take_at, drop_at, drop-drop, take-length}
+use Rattle.std.specs.List.{list_any}
+use Rattle.std.proofs.lemmas.List.Folds.{list_any-append}
+use Rattle.std.specs.Char.{to_ascii_lowercase}
+use Rattle.std.proofs.lemmas.Str.Ascii.{lowercase_is}
 use borrow.Author.Tests.{eq-eqb, ne_eqb, lt-ltb, le-ltb, le-leb, lt-leb}
 use Rattle.std.specs.Prelude.{Option, Some, None}
 use Rattle.hash.specs.declared.Hash.{Hash}
@@ -21,50 +25,79 @@ use Rattle.text.proofs.Words.{run_cons, run_both, in_word_above}
 -- ---- one byte
 
 module _ (b : ℕ) where
-  pub value_decimal : (d : ℕ) → 48 ≤ b → b ≤ 57 → d ≡ b - 48 → Some d ≡ digit_value b
+  value_decimal : (d : ℕ) → 48 ≤ b → b ≤ 57 → d ≡ b - 48 → Some d ≡ digit_value b
   unfolding digit_value
-  value_decimal d p q e = simp (le-leb 48 b p, le-leb b 57 q, e)
+  value_decimal d p q e = rw (le-leb 48 b p, le-leb b 57 q, e) refl
 
-  pub value_letter : (d : ℕ) → 97 ≤ b → b ≤ 102 → d ≡ b - 97 + 10 → Some d ≡ digit_value b
+  pub value_small : (d : ℕ) → 97 ≤ b → b ≤ 102 → d ≡ b - 97 + 10 → Some d ≡ digit_value b
   unfolding digit_value
-  value_letter d p q e = simp (le-leb 48 b (omega arith), lt-leb b 57 (omega arith), le-leb 97 b p, le-leb b 102 q, e)
+  value_small d p q e = rw (le-leb 48 b (omega arith), lt-leb b 57 (omega arith), le-leb 97 b p, le-leb b 102 q, e) refl
 
-  pub value_low : b < 48 → None ≡ digit_value b
+  pub value_capital : (d : ℕ) → 65 ≤ b → b ≤ 70 → d ≡ b - 65 + 10 → Some d ≡ digit_value b
   unfolding digit_value
-  value_low p = simp (lt-leb 48 b p)
+  value_capital d p q e =
+      rw (le-leb 48 b (omega arith), lt-leb b 57 (omega arith), lt-leb 97 b (omega arith), le-leb 65 b p, le-leb b 70 q, e) refl
 
-  pub value_middle : 57 < b → b < 97 → None ≡ digit_value b
+  none_below : b < 48 → None ≡ digit_value b
   unfolding digit_value
-  value_middle p q = simp (le-leb 48 b (omega arith), lt-leb b 57 p, lt-leb 97 b q)
+  none_below p = rw (lt-leb 48 b p, lt-leb 97 b (omega arith), lt-leb 65 b (omega arith)) refl
 
-  pub value_high : 102 < b → None ≡ digit_value b
+  none_before_capitals : 57 < b → b < 65 → None ≡ digit_value b
   unfolding digit_value
-  value_high p = simp (le-leb 48 b (omega arith), lt-leb b 57 (omega arith), le-leb 97 b (omega arith), lt-leb b 102 p)
+  none_before_capitals p q = rw (le-leb 48 b (omega arith), lt-leb b 57 p, lt-leb 97 b (omega arith), lt-leb 65 b q) refl
 
--- a byte that says d is the digit of d
+  pub none_before_small : 70 < b → b < 97 → None ≡ digit_value b
+  unfolding digit_value
+  none_before_small p q =
+      rw (le-leb 48 b (omega arith), lt-leb b 57 (omega arith), lt-leb 97 b q, le-leb 65 b (omega arith), lt-leb b 70 p) refl
+
+  pub none_above : 102 < b → None ≡ digit_value b
+  unfolding digit_value
+  none_above p =
+      rw (
+        le-leb 48 b (omega arith),
+        lt-leb b 57 (omega arith),
+        le-leb 97 b (omega arith),
+        lt-leb b 102 p,
+        le-leb 65 b (omega arith),
+        lt-leb b 70 (omega arith),
+      ) refl
+
+-- one of the three ranges, or none
+by_range : (b : ℕ) (P : Type 0) → (48 ≤ b → b ≤ 57 → P) → (65 ≤ b → b ≤ 70 → P) → (97 ≤ b → b ≤ 102 → P) → (None ≡ digit_value b → P) → P
+by_range b P decimal capital small none =
+    by_cases (dec_lt b 48) (λ h. none (none_below b h)) (λ h₀.
+    by_cases (dec_lt b 58) (λ h. decimal (omega arith) (omega arith)) (λ h₁.
+    by_cases (dec_lt b 65) (λ h. none (none_before_capitals b (omega arith) h)) (λ h₂.
+    by_cases (dec_lt b 71) (λ h. capital (omega arith) (omega arith)) (λ h₃.
+    by_cases (dec_lt b 97) (λ h. none (none_before_small b (omega arith) h)) (λ h₄.
+    by_cases (dec_lt b 103) (λ h. small (omega arith) (omega arith)) (λ h₅. none (none_above b (omega arith))))))))
+
+-- a byte that says d is, in lowercase, the digit of d
 pub record IsDigit (b d : ℕ) : Type 0 where
   pub small : d < 16
-  pub byte : glyph d ≡ b
+  pub byte : glyph d ≡ to_ascii_lowercase b
 
 pub digit_is : (b d : ℕ) → digit_value b ≡ Some d → IsDigit b d
 unfolding glyph
 digit_is b d e =
-    by_cases (dec_lt b 48) (λ h. none (value_low b h)) (λ h₀.
-    by_cases (dec_lt 57 b)
-    (λ h₁. by_cases (dec_lt b 97) (λ h. none (value_middle b h₁ h)) (λ h₂.
-    by_cases (dec_lt 102 b) (λ h. none (value_high b h)) (λ h₃.
-    let f = value_letter b (b - 97 + 10) (omega arith) (omega arith) refl in
-    let x : d ≡ b - 97 + 10 = cc in
-    let y : 97 + (d - 10) ≡ b = omega arith in
-    record { small = omega arith; byte = rw (le-ltb d 10 (omega arith)) y })))
-    (λ h₁.
-    let f = value_decimal b (b - 48) (omega arith) (omega arith) refl in
+    by_range b (IsDigit b d)
+    (λ p q.
+    let f = value_decimal b (b - 48) p q refl in
     let x : d ≡ b - 48 = cc in
     let y : 48 + d ≡ b = omega arith in
-    record { small = omega arith; byte = rw (lt-ltb d 10 (omega arith)) y }))
-  where
-    none : None ≡ digit_value b → IsDigit b d
-    none f = cc
+    record { small = omega arith; byte = rw (lt-ltb d 10 (omega arith), (lowercase_is b).1 (omega arith)) y })
+    (λ p q.
+    let f = value_capital b (b - 65 + 10) p q refl in
+    let x : d ≡ b - 65 + 10 = cc in
+    let y : 97 + (d - 10) ≡ b + 32 = omega arith in
+    record { small = omega arith; byte = rw (le-ltb d 10 (omega arith), (lowercase_is b).0 (omega arith, omega arith)) y })
+    (λ p q.
+    let f = value_small b (b - 97 + 10) p q refl in
+    let x : d ≡ b - 97 + 10 = cc in
+    let y : 97 + (d - 10) ≡ b = omega arith in
+    record { small = omega arith; byte = rw (le-ltb d 10 (omega arith), (lowercase_is b).2 (omega arith)) y })
+    (λ f. cc)
 
 pub more_value : (n b d : ℕ) → Some d ≡ digit_value b → n < 2 ^ 60 → Some (n * 16 + d) ≡ hex_more (Some n) b
 unfolding hex_more join_digit
@@ -76,12 +109,20 @@ more_bad b = refl
 
 -- ---- what was written is read back
 
+-- a digit is one of `0` to `9`, or one of `a` to `f`
+pub glyph_test : (P : ℕ → Type 0) → ((b : ℕ) → 48 ≤ b → b ≤ 57 → P b) → ((b : ℕ) → 97 ≤ b → b ≤ 102 → P b) → (d : ℕ) → d < 16 → P (glyph d)
+unfolding glyph
+glyph_test P decimal letter d h =
+    by_cases (dec_lt d 10)
+    (λ p. rw (lt-ltb d 10 p) (decimal (48 + d) (omega arith) (omega arith)))
+    (λ p. rw (le-ltb d 10 (omega arith)) (letter (97 + (d - 10)) (omega arith) (omega arith)))
+
 pub value_glyph : (d : ℕ) → d < 16 → Some d ≡ digit_value (glyph d)
 unfolding glyph
 value_glyph d h =
     by_cases (dec_lt d 10)
     (λ p. simp (lt-ltb d 10 p) (value_decimal (48 + d) d (omega arith) (omega arith) (omega arith)))
-    (λ p. simp (le-ltb d 10 (omega arith)) (value_letter (97 + (d - 10)) d (omega arith) (omega arith) (omega arith)))
+    (λ p. simp (le-ltb d 10 (omega arith)) (value_small (97 + (d - 10)) d (omega arith) (omega arith) (omega arith)))
 
 read-hex_on : (k n : ℕ) (s : List ℕ) → n < 16 ^ k → n < 2 ^ 64 → read_on hex_more (Some 0) (hex_on k n s) ≡ read_on hex_more (Some n) s
 unfolding hex_on read_on
@@ -108,11 +149,7 @@ unfolding hex
 length-hex n = length-hex_on 16 n []
 
 in_word_glyph : (d : ℕ) → d < 16 → in_word (glyph d) ≡ true
-unfolding glyph
-in_word_glyph d h =
-    by_cases (dec_lt d 10)
-    (λ p. simp (lt-ltb d 10 p) (in_word_above (48 + d) (omega arith)))
-    (λ p. simp (le-ltb d 10 (omega arith)) (in_word_above (97 + (d - 10)) (omega arith)))
+in_word_glyph = glyph_test (λ b. in_word b ≡ true) (λ b p q. in_word_above b (omega arith)) (λ b p q. in_word_above b (omega arith))
 
 run-hex_on : (k n : ℕ) (s : List ℕ) → run s ≡ length s → run (hex_on k n s) ≡ length (hex_on k n s)
 unfolding hex_on
@@ -172,3 +209,19 @@ read-hex_text h f =
     (sym (rw (part_2 a b c d la lb lc ld) (read-hex h.w2 f.w2)))
     (sym (rw (part_3 a b c d la lb lc ld) (read-hex h.w3 f.w3)))
     refl)
+
+-- ---- a test that no digit passes is passed by no byte of a hash's digits
+
+module _ (test : ℕ → Bool) (digits : (d : ℕ) → d < 16 → test (glyph d) ≡ false) where
+  hex_on_none : (k n : ℕ) (s : List ℕ) → list_any test s ≡ false → list_any test (hex_on k n s) ≡ false
+  unfolding hex_on
+  hex_on_none zero n s e = e
+  hex_on_none (suc k) n s e = hex_on_none k (n / 16) (glyph (n % 16) ∷ s) (rw (digits (n % 16) (omega arith)) e)
+
+  hex_none : (n : ℕ) → list_any test (hex n) ≡ false
+  unfolding hex
+  hex_none n = hex_on_none 16 n [] refl
+
+  pub hex_text_none : (h : Hash) → list_any test (hex_text h) ≡ false
+  unfolding hex_text
+  hex_text_none h = simp (list_any-append, hex_none)

@@ -1,5 +1,6 @@
 -- Hexadecimal digits, and hashes written in them: four 64-bit words, most significant byte first, sixteen digits each.
-use Rattle.std.specs.Prelude.{ℕ, zero, suc, ◌+◌, ◌-◌, ◌*◌, ◌/◌, ◌%◌, ◌^◌, List, [], ◌∷◌, ◌++◌, length, take, drop, ltb, leb, eqb, Option, Some, None, cond}
+use Rattle.std.specs.Prelude.{ℕ, zero, suc, ◌+◌, ◌-◌, ◌*◌, ◌/◌, ◌%◌, ◌^◌, List, [], ◌∷◌, ◌++◌, length, take, drop, ltb, eqb, Option, Some, None, cond}
+use Rattle.std.specs.Int.{is_in_range}
 use Rattle.hash.specs.declared.Hash.{Hash}
 use Rattle.text.specs.Digits.{read_on}
 
@@ -22,14 +23,13 @@ hex_text h = hex h.w0 ++ (hex h.w1 ++ (hex h.w2 ++ hex h.w3))
 
 -- ---- what they say
 
--- what one byte says: `0` to `9`, `a` to `f`
+-- what one byte says: `0` to `9`, `a` to `f`, `A` to `F`
 unfoldable pub digit_value : ℕ → Option ℕ
 digit_value b =
-    cond (leb 48 b)
-    (cond (leb b 57)
-    (Some (b - 48))
-    (cond (leb 97 b) (cond (leb b 102) (Some (b - 97 + 10)) None) None))
-    None
+    cond (is_in_range 48 57 b) (Some (b - 48))
+    (cond (is_in_range 97 102 b) (Some (b - 97 + 10))
+    (cond (is_in_range 65 70 b) (Some (b - 65 + 10))
+    None))
 
 -- a digit after the number n; refused where the number would pass 2^64 - 1
 unfoldable pub join_digit : ℕ → Option ℕ → Option ℕ

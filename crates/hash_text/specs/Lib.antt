@@ -1,5 +1,8 @@
--- Document 01's hashes: LineHashes, on a line; SheetHashes, on a sheet; Hex, the digits of both. Reads is the helpers'.
+-- Hashes as text. Texts, how they are written; LineHashes, what a word of a line says; SheetHashes, what a word of a sheet says; Cases,
+-- lines that differ in the case of hash digits only; Hex, the digits; Statements, which words are hashes.
+pub mod Hex
+pub mod Texts
 pub mod LineHashes
 pub mod SheetHashes
-pub mod Hex
-pub mod Reads
+pub mod Cases
+pub mod Statements

@@ -1,12 +1,10 @@
--- Document 01, "Lines": a hash on a line is 64 lowercase hex digits.
-use Rattle.std.specs.Prelude.{ℕ, List, Option}
+-- Document 02, Job 3: "A hash on a line is now `0x` and 64 hex digits of either case, and the bare form is no longer a hash."
+use Rattle.std.specs.Prelude.{ℕ, List, length, drop, eqb, Option, None, cond}
+use Rattle.std.specs.List.{starts_with}
 use Rattle.hash.specs.declared.Hash.{Hash}
-use Rattle.hash_text.specs.Hex.{hex_text, hex_hash}
+use Rattle.hash_text.specs.Hex.{hex_hash}
+use Rattle.hash_text.specs.Texts.{hash_prefix}
 
--- how a line writes it
-unfoldable pub line_hash_text : Hash → List ℕ
-line_hash_text h = hex_text h
-
--- the hash that a word of a line says
+-- The hash that a word of a line says: `hash_prefix` is `0x`, `hex_hash` asks for 64 digits, and `digit_value` has both cases.
 unfoldable pub line_hash : List ℕ → Option Hash
-line_hash s = hex_hash s
+line_hash w = cond (starts_with eqb w hash_prefix) (hex_hash (drop (length hash_prefix) w)) None

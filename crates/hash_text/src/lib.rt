@@ -1,10 +1,9 @@
-// Hashes as hexadecimal text, on a line and on a sheet: their writers.
-// Knows nothing of a head, a call, an answer or a sheet's other parts.
+// Hashes as hexadecimal text: their writer.
+// Knows nothing of how a hash is read, nor of a head, a call, an answer or a sheet's other parts.
 #![tactic(auto)]
 
 ghost use Rattle.hash_text.specs.Hex.{hex};
-ghost use Rattle.hash_text.specs.LineHashes.{line_hash_text};
-ghost use Rattle.hash_text.specs.SheetHashes.{sheet_hash_text};
+ghost use Rattle.hash_text.specs.Texts.{hash_text};
 ghost use Rattle.text_put.specs.Writers.{Puts, Room};
 
 use hash::Hash;
@@ -21,13 +20,13 @@ pub(crate) fn put_hex(out: &mut TextWriter<'_>, n: u64)
     out.text(&digits);
 }
 
-// Puts a hash: a sheet has it as a line has it.
-#[tactic(auto, using(text_put::proofs::Writers::wrote_both), unfolding(crate::specs::LineHashes::line_hash_text, crate::specs::SheetHashes::sheet_hash_text, crate::specs::Hex::hex_text))]
+// Puts a hash: in an answer as on a sheet.
+#[tactic(auto, using(text_put::proofs::Writers::wrote_both), unfolding(crate::specs::Texts::hash_text, crate::specs::Texts::hash_prefix, crate::specs::Hex::hex_text))]
 pub fn put_hash(out: &mut TextWriter<'_>, h: Hash)
-    requires { Room out.old 64 }
-    ensures on_a_line { Puts out.old out.new 64 (line_hash_text h) }
-    ensures on_a_sheet { Puts out.old out.new 64 (sheet_hash_text h) }
+    requires { Room out.old 66 }
+    ensures { Puts out.old out.new 66 (hash_text h) }
 {
+    out.text(b"0x");
     put_hex(out, h.w0);
     put_hex(out, h.w1);
     put_hex(out, h.w2);

@@ -1,5 +1,6 @@
 // replay: makes the calls of the recorded runs in `runs` and counts the answers that are not the recorded ones. The recording is lines, each
 // marked by its first byte: `#N` begins a run whose nine counters all stand at N, `>CALL` is a call, and the `<TEXT` lines before it are its answer.
+// The hashes of the calls have capitals among their digits, as a line may have them; answers have none.
 // The settle numbers that our answers show are left out of the comparison (numbers.rt), since the recorded runs show none.
 // Knows nothing of how answers come about, nor of what the Rust is. A line and an answer go beside their counts, as `keep` and `finish` ask for them.
 #![tactic(auto)]

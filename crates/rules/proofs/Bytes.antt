@@ -10,11 +10,10 @@ use lib.Dec.{leb, ltb}
 use borrow.Author.Tests.{leb-true, ltb-true}
 use Rattle.head_values.specs.Values.{anchor_value, block_hash_value, skip_value, slot_value}
 use Rattle.value_text.specs.Texts.{anchor_text, block_hash_text, skip_text, slot_text}
-use Rattle.value_text.specs.Values.{hash_text, value_text}
+use Rattle.value_text.specs.Values.{value_text}
 use Rattle.value_text.specs.Words.{word_text}
-use Rattle.value_text.specs.declared.page.Page.{Page}
 use Rattle.hash_text.specs.Hex.{glyph, hex, hex_on, hex_text}
-use Rattle.hash_text.specs.LineHashes.{line_hash_text}
+use Rattle.hash_text.specs.Texts.{hash_prefix, hash_text}
 use Rattle.script_call.specs.Texts.{call_text}
 use Rattle.text.specs.Ascii.{ascii}
 use Rattle.text.specs.Decimals.{decimal, decimal_on}
@@ -86,13 +85,13 @@ hex_plain : (n : ℕ) → AllPlain (hex n)
 unfolding hex AllPlain
 hex_plain n = hex_on_plain 16 n [] tt
 
-hash_plain : (h : Hash) → AllPlain (line_hash_text h)
-unfolding line_hash_text hex_text
-hash_plain h = plain_then _ _ (hex_plain h.w0) (plain_then _ _ (hex_plain h.w1) (plain_then _ _ (hex_plain h.w2) (hex_plain h.w3)))
+hash_plain : (h : Hash) → AllPlain (hash_text h)
+unfolding hash_text hash_prefix hex_text plain_test
+hash_plain h = plain_then hash_prefix _ (quoted hash_prefix refl) (plain_then _ _ (hex_plain h.w0) (plain_then _ _ (hex_plain h.w1) (plain_then _ _ (hex_plain h.w2) (hex_plain h.w3))))
 
 -- ---- values
 
-block_hash_plain : (h : Option Hash) → AllPlain (block_hash_text Page.Line h)
+block_hash_plain : (h : Option Hash) → AllPlain (block_hash_text h)
 unfolding block_hash_text value_text word_text hash_text block_hash_value plain_test
 block_hash_plain None = quoted (ascii "none") refl
 block_hash_plain (Some h) = hash_plain h
@@ -106,11 +105,11 @@ spaced : (s : List ℕ) → AllPlain s → AllPlain (ascii " " ++ s)
 unfolding plain_test
 spaced s f = plain_then (ascii " ") s (quoted (ascii " ") refl) f
 
-anchor_plain : (a : ReadAnchor) → AllPlain (anchor_text Page.Line a)
+anchor_plain : (a : ReadAnchor) → AllPlain (anchor_text a)
 unfolding anchor_text value_text anchor_value block_hash_text plain_test
 anchor_plain a = plain_then (ascii "(") _ (quoted (ascii "(") refl) (plain_then _ _ (decimal_plain a.number) (spaced _ (ends _ (block_hash_plain a.hash))))
 
-slot_plain : (s : Option ReadAnchor) → AllPlain (slot_text Page.Line s)
+slot_plain : (s : Option ReadAnchor) → AllPlain (slot_text s)
 unfolding slot_text value_text word_text slot_value anchor_text plain_test
 slot_plain None = quoted (ascii "none") refl
 slot_plain (Some a) = anchor_plain a

@@ -22,7 +22,6 @@ use Rattle.head_values.specs.declared.ReadAnchor.{ReadAnchor}
 use Rattle.head_driver.specs.declared.Driver.{Driver}
 use Rattle.head_life.specs.declared.HeadLifecycle.{HeadLifecycle}
 use Rattle.script_call.specs.declared.LineCall.{LineCall}
-use Rattle.value_text.specs.declared.page.Page.{Page}
 use Rattle.rules.specs.Sheets.{onto, sheet_into, to_last_line_feed, wrote_of}
 use Rattle.rules.specs.Statements.{SheetIsText}
 
@@ -66,8 +65,8 @@ life_fed l =
     (fed_after (superseded_line l.superseded) _
     (fed_after (installed_line l.installed) _ (previous_fed l.previous))))
 
-anchor_fed : (a : ReadAnchor) → Fed (anchor_text Page.Sheet a ++ ascii ")\n")
-anchor_fed a = fed_after (anchor_text Page.Sheet a) (ascii ")\n") (fed (ascii ")"))
+anchor_fed : (a : ReadAnchor) → Fed (anchor_text a ++ ascii ")\n")
+anchor_fed a = fed_after (anchor_text a) (ascii ")\n") (fed (ascii ")"))
 
 waiter_fed : (n : ℕ) (w : Waiter) (s : List ℕ) → Fed s → Fed (s ++ waiter_line n w)
 unfolding waiter_line

@@ -17,7 +17,6 @@ use Rattle.text.specs.Decimals.{decimal, decimal_on}
 use Rattle.script_answer.specs.declared.LineAnswer.{LineAnswer}
 use Rattle.head_driver.specs.declared.Answer.{Answer}
 use Rattle.head_ready.specs.declared.HeadOutcome.{HeadOutcome}
-use Rattle.value_text.specs.declared.page.Page.{Page}
 use Rattle.rules.specs.Said.{Says, answer_refusal, line_refusal, names_on, outcome_refusal, refusal_line}
 
 -- two texts that differ at a place are not one
@@ -26,7 +25,7 @@ differ k s t n e = n (ap (λ (u : List ℕ). get_or u k 0) e)
 
 -- the line of what is said
 abbrev line_of : Answer → List ℕ
-line_of a = ascii "(" ++ (word_text (said a).word ++ refusal_on (said a).number (values_on Page.Line (said a).values (ascii ")\n")))
+line_of a = ascii "(" ++ (word_text (said a).word ++ refusal_on (said a).number (values_on (said a).values (ascii ")\n")))
 
 outcome_says : (o : HeadOutcome) → Says (line_of (Answer.Outcome o)) (outcome_refusal o)
 unfolding said outcome_said word_text refusal_on values_on refusal_line names_on anchor_text

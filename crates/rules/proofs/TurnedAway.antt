@@ -17,7 +17,7 @@ use Rattle.driver.specs.Turns.{made, sheet_after, sheet_answer, turn_of}
 use Rattle.head_current.specs.Heads.{delivery}
 use Rattle.head_ready.specs.Generations.{slot_anchor}
 use Rattle.head_step.specs.Steps.{step}
-use Rattle.script_call.proofs.Back.{call_back, sheet_back}
+use Rattle.script_call.proofs.Back.{call_given, sheet_back}
 use Rattle.script_call.proofs.Only.{call_only, sheet_only}
 use Rattle.script_call.proofs.Ranges.{call_range}
 use Rattle.script_call.specs.Calls.{call}
@@ -63,7 +63,7 @@ no_call_made p = cc
 -- a line that is read as no call is none
 is_no_call : (line : List ℕ) → call line ≡ None → (no_call line).applies
 unfolding sheet_call_text
-is_no_call line e = (λ p. no_call_sheet (sym e ∙ ap call p ∙ sheet_back), λ c w p. no_call_made (sym e ∙ ap call p ∙ call_back c w))
+is_no_call line e = (λ p. no_call_sheet (sym e ∙ ap call p ∙ sheet_back), λ c w p. no_call_made (sym e ∙ call_given line c w p))
 
 is_sheet : (line : List ℕ) → call line ≡ Some LineCall.Sheet → ¬ (no_call line).applies
 unfolding sheet_call_text

@@ -7,6 +7,7 @@ use Rattle.head_count.specs.Counters.{stats_of, up}
 use Rattle.head_current.specs.Heads.{delivery}
 use Rattle.head_life.specs.State.{with_stats}
 use Rattle.head_waits.specs.Parts.{waiter_at}
+use Rattle.hash_text.specs.Cases.{ButForCase}
 use Rattle.script_call.specs.Calls.{call}
 use Rattle.head_call.specs.Ranges.{Writable}
 use Rattle.script_call.specs.Texts.{call_text}
@@ -34,9 +35,10 @@ test applies number names = record { applies = applies; number = number; names =
 
 -- ---- turned away by the input
 
--- 1 line is no call: it is not `(sheet)`, and it is not the line of any call, its numbers and the words of its hashes below 2^64
+-- 1 line is no call: it is not `(sheet)`, and no call's own text but for the case of hash digits, the call's numbers and the words of its
+-- hashes below 2^64
 abbrev pub no_call : List ℕ → Test
-no_call line = test ((¬ (line ≡ ascii "(sheet)")) × ((c : Call) → Writable c → ¬ (line ≡ call_text c))) 1 []
+no_call line = test ((¬ (line ≡ ascii "(sheet)")) × ((c : Call) → Writable c → ¬ ButForCase line (call_text c))) 1 []
 
 -- 2 list and anchor disagree on `no-hash`: it is not so that the skip is `no-hash` exactly when the anchor has no hash
 abbrev pub at_odds : PreparedBal → Test

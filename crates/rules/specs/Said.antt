@@ -7,7 +7,6 @@ use Rattle.script_answer.specs.declared.LineAnswer.{LineAnswer}
 use Rattle.head_values.specs.declared.ReadAnchor.{ReadAnchor}
 use Rattle.head_driver.specs.declared.Answer.{Answer}
 use Rattle.head_ready.specs.declared.HeadOutcome.{HeadOutcome}
-use Rattle.value_text.specs.declared.page.Page.{Page}
 use Rattle.rules.specs.Refusals.{Refusal}
 
 -- ---- the refusals among the answers
@@ -48,7 +47,7 @@ line_refusal (LineAnswer.Sheet n) = Refusal.accepted
 -- anchors, each after a space, and the line's end
 unfoldable pub names_on : List ReadAnchor → List ℕ
 names_on [] = ascii ")\n"
-names_on (a ∷ more) = ascii " " ++ (anchor_text Page.Line a ++ names_on more)
+names_on (a ∷ more) = ascii " " ++ (anchor_text a ++ names_on more)
 
 -- `(refused 11 A)`, `(refused 12 LIST HELD)`, others `(refused N)`
 unfoldable pub refusal_line : ℕ → List ReadAnchor → List ℕ

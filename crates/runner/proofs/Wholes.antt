@@ -83,7 +83,7 @@ shows_done d sheet _ (not_taken f) n = absurd (n refl)
 -- ---- what the bytes that were read are
 
 -- no sheet that is put back has 4,097 bytes, so where what was read is one, it is all that the reader had
-all_read : (xs : List ℕ) (left : Option (List ℕ)) (read : List ℕ) → ReadsWhole (Some xs) left read 4097 → length read ≤ 2652 → xs ≡ read
+all_read : (xs : List ℕ) (left : Option (List ℕ)) (read : List ℕ) → ReadsWhole (Some xs) left read 4097 → length read ≤ 2694 → xs ≡ read
 all_read xs None read w h = absurd w.parted
 all_read xs (Some ys) read w h = w.parted ∙ ap (λ t. read ++ t) (w.ended (omega arith)) ∙ append-nil read
 

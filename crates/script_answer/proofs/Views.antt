@@ -11,13 +11,12 @@ use Rattle.head_ready.specs.declared.Source.{Source}
 use Rattle.text.specs.Ascii.{ascii}
 use Rattle.value_text.specs.Values.{value_text, values_on}
 use Rattle.value_text.specs.Words.{word_text}
-use Rattle.value_text.specs.declared.page.Page.{Page}
 use Rattle.script_value.specs.Lines.{answer_text, refusal_on, said_text}
 use Rattle.script_value.specs.Texts.{spaced_text}
 use Rattle.script_outcome.specs.Texts.{readiness_text, settle_number_text, source_text}
 
 settle_number_values : (s : Source) (values : List Value) (t : List ℕ)
-    → values_on Page.Line (settled_under s values) t ≡ settle_number_text s ++ values_on Page.Line values t
+    → values_on (settled_under s values) t ≡ settle_number_text s ++ values_on values t
 unfolding settled_under settle_number_text values_on value_text
 settle_number_values (Source.Installed seq) values t = refl
 settle_number_values Source.Provisional values t = refl
@@ -25,7 +24,7 @@ settle_number_values (Source.Previous seq) values t = refl
 settle_number_values Source.Spare values t = refl
 
 pub view_values : (v : HeadView) (t : List ℕ)
-    → values_on Page.Line (said (Answer.View v)).values t
+    → values_on (said (Answer.View v)).values t
     ≡ ascii " " ++ (source_text v.source ++ (spaced_text v.handle
     ++ (settle_number_text v.source ++ (ascii " " ++ (readiness_text v.readiness ++ t)))))
 unfolding said values_on value_text source_text spaced_text readiness_text

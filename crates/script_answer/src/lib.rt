@@ -27,7 +27,7 @@ pub enum LineAnswer {
     Sheet(usize),
 }
 
-// No answer is longer than `heads`, 271 bytes; every one has the room that a host is asked for, but for the line feed.
+// No answer is longer than `heads`, 277 bytes; every one has the room that a host is asked for, but for the line feed.
 // One match over all answers, in the order of document 01; an answer without values is a word or a refusal's number alone.
 #[tactic(auto, unfolding(script_value::specs::Lines::answer_text, script_value::specs::Lines::said_text, head_driver::specs::Answers::said, script_value::specs::Lines::refusal_on, value_text::specs::Values::values_on, value_text::specs::Words::word_text, text::specs::Decimals::decimal, text::specs::Decimals::decimal_on))]
 pub(crate) fn put_text(out: &mut TextWriter<'_>, answer: Answer)

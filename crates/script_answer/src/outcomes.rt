@@ -14,7 +14,6 @@ use number_text::{put_decimal, put_named};
 use script_outcome::put_outcome;
 use text_put::TextWriter;
 use value_text::anchor::put_anchor;
-use value_text::page::Page;
 
 // Puts `(refused N`, as every refusal begins.
 pub(crate) fn put_refusal(out: &mut TextWriter<'_>, n: u64)
@@ -35,30 +34,30 @@ pub(crate) fn put_settled(out: &mut TextWriter<'_>, outcome: CarryOutcome)
 }
 
 pub(crate) fn put_superseded(out: &mut TextWriter<'_>, anchor: ReadAnchor)
-    requires { Room out.old 118 }
-    ensures { Puts out.old out.new 118 (answer_text (Answer.Outcome (HeadOutcome.Superseded anchor))) }
+    requires { Room out.old 120 }
+    ensures { Puts out.old out.new 120 (answer_text (Answer.Outcome (HeadOutcome.Superseded anchor))) }
 {
     put_refusal(out, 11);
     out.byte(b' ');
-    put_anchor(out, Page::Line, anchor);
+    put_anchor(out, anchor);
     out.byte(b')');
 }
 
 pub(crate) fn put_foreign(out: &mut TextWriter<'_>, list: ReadAnchor, held: ReadAnchor)
-    requires { Room out.old 206 }
-    ensures { Puts out.old out.new 206 (answer_text (Answer.Outcome (HeadOutcome.Foreign list held))) }
+    requires { Room out.old 210 }
+    ensures { Puts out.old out.new 210 (answer_text (Answer.Outcome (HeadOutcome.Foreign list held))) }
 {
     put_refusal(out, 12);
     out.byte(b' ');
-    put_anchor(out, Page::Line, list);
+    put_anchor(out, list);
     out.byte(b' ');
-    put_anchor(out, Page::Line, held);
+    put_anchor(out, held);
     out.byte(b')');
 }
 
 pub(crate) fn put_head_outcome(out: &mut TextWriter<'_>, outcome: HeadOutcome)
-    requires { Room out.old 206 }
-    ensures { Puts out.old out.new 206 (answer_text (Answer.Outcome outcome)) }
+    requires { Room out.old 210 }
+    ensures { Puts out.old out.new 210 (answer_text (Answer.Outcome outcome)) }
 {
     match outcome {
         HeadOutcome::Settled(settled) => put_settled(out, settled),

@@ -3,22 +3,15 @@ use mathlib.Core.Path.{◌≡◌, refl}
 use mathlib.Core.Bool.{false}
 use Rattle.std.specs.Prelude.{None}
 use Rattle.head_call.specs.declared.Call.{Call}
-use Rattle.text.specs.Rests.{stopped, after_byte, after, word_here, at_end}
-use Rattle.hash_text.specs.Hex.{hex_hash}
-use Rattle.hash_text.specs.LineHashes.{line_hash}
-use Rattle.hash_text.specs.Reads.{hash_got, read_hash}
+use Rattle.text.specs.Rests.{stopped, after_byte, after, at_end}
 use Rattle.value_text.specs.declared.page.Page.{Page}
-use Rattle.value_read.proofs.Stopped.{anchor_stopped, skip_stopped}
+use Rattle.value_read.proofs.Stopped.{anchor_stopped, hash_stopped, skip_stopped}
 use Rattle.script_call.specs.Values.{spaced_hash, spaced_anchor, spaced_skip}
 use Rattle.script_call.specs.Calls.{ends, closed, spaced_list}
 
-pub hash_stopped : (read_hash stopped).next ≡ stopped
-unfolding read_hash hash_got word_here line_hash hex_hash
-hash_stopped = refl
-
 pub spaced_hash_stopped : (spaced_hash stopped).next ≡ stopped
 unfolding spaced_hash after after_byte
-spaced_hash_stopped = hash_stopped
+spaced_hash_stopped = hash_stopped Page.Line
 
 pub spaced_anchor_stopped : (spaced_anchor stopped).next ≡ stopped
 unfolding spaced_anchor after after_byte

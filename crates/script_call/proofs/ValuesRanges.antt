@@ -1,9 +1,8 @@
 -- What is read from a line is below 2^64, whatever the line (`value_text/proofs/Ranges`). Each value after one space.
 use Rattle.text.specs.Rests.{Rest}
 use Rattle.hash.specs.Ranges.{HashFits}
-use Rattle.hash_text.proofs.Only.{hash_range}
 use Rattle.head_values.specs.Ranges.{AnchorFits, SlotFits, SkipFits}
-use Rattle.value_text.proofs.Ranges.{anchor_range, skip_range, slot_range}
+use Rattle.value_text.proofs.Ranges.{anchor_range, hash_range, skip_range, slot_range}
 use Rattle.value_text.specs.declared.page.Page.{Page}
 use Rattle.script_call.specs.Values.{spaced_hash, spaced_anchor, spaced_slot, spaced_skip}
 
@@ -11,7 +10,7 @@ use Rattle.script_call.specs.Values.{spaced_hash, spaced_anchor, spaced_slot, sp
 
 pub spaced_hash_range : (r : Rest) → HashFits (spaced_hash r).value
 unfolding spaced_hash
-spaced_hash_range r = hash_range _
+spaced_hash_range r = hash_range Page.Line _
 
 pub spaced_anchor_range : (r : Rest) → AnchorFits (spaced_anchor r).value
 unfolding spaced_anchor

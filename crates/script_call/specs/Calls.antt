@@ -148,7 +148,7 @@ call_named w r =
 unfoldable pub call_here : Rest → Option LineCall
 call_here r = call_named (word_here r) (past_word r)
 
--- A line is at most 512 bytes: a longer one, and an empty one, is no call. (No call has more than 297.)
+-- A line is at most 512 bytes: a longer one, and an empty one, is no call. (No call has more than 301.)
 unfoldable pub call : List ℕ → Option LineCall
 call l =
     cond (eqb (length l) 0) None

@@ -177,7 +177,7 @@ pub(crate) fn by_word(word: &[u8], r: &mut LineReader<'_>) -> Option<LineCall>
     }
 }
 
-// The call of a line, which comes without its line feed. An empty line has no bracket, and so is no call. No call is longer than 297 bytes; 512 is document 01's limit for a line.
+// The call of a line, which comes without its line feed. An empty line has no bracket, and so is no call. No call is longer than 301 bytes; 512 is document 01's limit for a line.
 #[tactic(auto, using(crate::proofs::Lines::line_long, crate::proofs::Lines::line_is, crate::proofs::Lines::line_stopped))]
 pub fn read_call(line: &[u8]) -> Option<LineCall>
     ensures { result ≡ call line.now }

@@ -3,20 +3,19 @@ ghost use Rattle.line_reader.specs.Reads.{rest, Reads};
 ghost use Rattle.script_call.specs.Values.{spaced_anchor, spaced_hash, spaced_skip, spaced_slot};
 
 use hash::Hash;
-use hash_read::read_hash;
 use head_values::{BalSkip, ReadAnchor};
 use line_reader::LineReader;
-use value_read::anchor::{take_anchor, take_slot};
+use value_read::anchor::{take_anchor, take_hash, take_slot};
 use value_read::skip::take_skip;
 use value_text::page::Page;
 
 // A parent hash, which is never `none`.
-#[tactic(auto, using(crate::proofs::Stopped::hash_stopped), unfolding(crate::specs::Values::spaced_hash, hash_text::specs::Reads::read_hash, hash_text::specs::Reads::hash_got))]
+#[tactic(auto, using(value_read::proofs::Stopped::hash_stopped), unfolding(crate::specs::Values::spaced_hash))]
 pub(crate) fn spaced_hash(r: &mut LineReader<'_>) -> Option<Hash>
     ensures { Reads r.old r.new result (spaced_hash (rest r.old)) }
 {
     r.past_byte(b' ')?;
-    read_hash(r.take_word())
+    take_hash(r, Page::Line)
 }
 
 #[tactic(auto, using(value_read::proofs::Stopped::anchor_stopped), unfolding(crate::specs::Values::spaced_anchor))]

@@ -27,14 +27,13 @@ use Rattle.head_count.specs.declared.HeadStats.{HeadStats}
 use Rattle.head_driver.specs.declared.Answer.{Answer}
 use Rattle.head_ready.specs.declared.HeadOutcome.{HeadOutcome}
 use Rattle.head_ready.specs.declared.HeadView.{HeadView}
-use Rattle.value_text.specs.declared.page.Page.{Page}
 use Rattle.script_lengths.specs.Statements.{AnswerLength, AnswerRoom}
 use Rattle.value_text.proofs.Lengths.{anchor_most, slot_most}
 use Rattle.script_lengths.proofs.Values.{end_most, link_most, outcome_most, readiness_most, report_most, source_most, spaced_most, stats_most, settle_number_most}
 
--- an answer's text is at most 271 bytes
+-- an answer's text is at most 277 bytes
 abbrev Short : Answer → Type 0
-Short a = length (answer_text a) ≤ 271
+Short a = length (answer_text a) ≤ 277
 
 -- the texts, as they are put together
 
@@ -54,7 +53,7 @@ stats_form : (s : HeadStats) → answer_text (Answer.Stats s) ≡ ascii "(stats"
 unfolding answer_text said_text said refusal_on word_text stats_text
 stats_form s = rw values_then
 
-heads_form : (c i p : Option ReadAnchor) → answer_text (Answer.Heads c i p) ≡ ascii "(heads " ++ (slot_text Page.Line c ++ (ascii " " ++ (slot_text Page.Line i ++ (ascii " " ++ (slot_text Page.Line p ++ ascii ")")))))
+heads_form : (c i p : Option ReadAnchor) → answer_text (Answer.Heads c i p) ≡ ascii "(heads " ++ (slot_text c ++ (ascii " " ++ (slot_text i ++ (ascii " " ++ (slot_text p ++ ascii ")")))))
 unfolding answer_text said_text said refusal_on values_on value_text word_text slot_text
 heads_form c i p = refl
 
@@ -62,11 +61,11 @@ settled_form : (o : CarryOutcome) → answer_text (Answer.Outcome (HeadOutcome.S
 unfolding answer_text said_text said outcome_said refusal_on values_on value_text word_text outcome_text
 settled_form o = refl
 
-superseded_form : (a : ReadAnchor) → answer_text (Answer.Outcome (HeadOutcome.Superseded a)) ≡ ascii "(refused 11 " ++ (anchor_text Page.Line a ++ ascii ")")
+superseded_form : (a : ReadAnchor) → answer_text (Answer.Outcome (HeadOutcome.Superseded a)) ≡ ascii "(refused 11 " ++ (anchor_text a ++ ascii ")")
 unfolding answer_text said_text said outcome_said refusal_on values_on value_text word_text anchor_text decimal decimal_on
 superseded_form a = refl
 
-foreign_form : (a b : ReadAnchor) → answer_text (Answer.Outcome (HeadOutcome.Foreign a b)) ≡ ascii "(refused 12 " ++ (anchor_text Page.Line a ++ (ascii " " ++ (anchor_text Page.Line b ++ ascii ")")))
+foreign_form : (a b : ReadAnchor) → answer_text (Answer.Outcome (HeadOutcome.Foreign a b)) ≡ ascii "(refused 12 " ++ (anchor_text a ++ (ascii " " ++ (anchor_text b ++ ascii ")")))
 unfolding answer_text said_text said outcome_said refusal_on values_on value_text word_text anchor_text decimal decimal_on
 foreign_form a b = refl
 
@@ -84,10 +83,10 @@ settled_short : (o : CarryOutcome) → Short (Answer.Outcome (HeadOutcome.Settle
 settled_short o = rw (settled_form o) (simp length-append (omega (arith, outcome_most o)))
 
 superseded_short : (a : ReadAnchor) → Short (Answer.Outcome (HeadOutcome.Superseded a))
-superseded_short a = rw (superseded_form a) (simp length-append (omega (arith, anchor_most Page.Line a)))
+superseded_short a = rw (superseded_form a) (simp length-append (omega (arith, anchor_most a)))
 
 foreign_short : (a b : ReadAnchor) → Short (Answer.Outcome (HeadOutcome.Foreign a b))
-foreign_short a b = rw (foreign_form a b) (simp length-append (omega (arith, anchor_most Page.Line a, anchor_most Page.Line b)))
+foreign_short a b = rw (foreign_form a b) (simp length-append (omega (arith, anchor_most a, anchor_most b)))
 
 outcome_short : (o : HeadOutcome) → Short (Answer.Outcome o)
 unfolding answer_text said_text said outcome_said refusal_on values_on word_text decimal decimal_on
@@ -121,7 +120,7 @@ stats_short : (s : HeadStats) → Short (Answer.Stats s)
 stats_short s = rw (stats_form s) (simp length-append (omega (arith, stats_most s)))
 
 heads_short : (c i p : Option ReadAnchor) → Short (Answer.Heads c i p)
-heads_short c i p = rw (heads_form c i p) (simp length-append (omega (arith, slot_most Page.Line c, slot_most Page.Line i, slot_most Page.Line p)))
+heads_short c i p = rw (heads_form c i p) (simp length-append (omega (arith, slot_most c, slot_most i, slot_most p)))
 
 text_short : (a : Answer) → Short a
 unfolding answer_text said_text said refusal_on values_on word_text decimal decimal_on

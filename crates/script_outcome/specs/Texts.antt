@@ -17,25 +17,24 @@ use Rattle.head_attempt.specs.declared.HeadCompletion.{HeadCompletion}
 use Rattle.head_ready.specs.declared.HeadCold.{HeadCold}
 use Rattle.head_ready.specs.declared.HeadReadiness.{HeadReadiness}
 use Rattle.head_ready.specs.declared.Source.{Source}
-use Rattle.value_text.specs.declared.page.Page.{Page}
 
 unfoldable pub cold_text : Link → BalSkip → List ℕ
-cold_text link skip = value_text Page.Line (Value.three (Value.word Word.cold) (fault_value link) (skip_value skip))
+cold_text link skip = value_text (Value.three (Value.word Word.cold) (fault_value link) (skip_value skip))
 
 unfoldable pub outcome_text : CarryOutcome → List ℕ
-outcome_text o = value_text Page.Line (outcome_value o)
+outcome_text o = value_text (outcome_value o)
 
 unfoldable pub report_text : Option DeltaReport → List ℕ
-report_text r = value_text Page.Line (report_value r)
+report_text r = value_text (report_value r)
 
 unfoldable pub reason_text : HeadCold → List ℕ
-reason_text reason = value_text Page.Line (readiness_value (HeadReadiness.Cold reason))
+reason_text reason = value_text (readiness_value (HeadReadiness.Cold reason))
 
 unfoldable pub readiness_text : HeadReadiness → List ℕ
-readiness_text r = value_text Page.Line (readiness_value r)
+readiness_text r = value_text (readiness_value r)
 
 unfoldable pub source_text : Source → List ℕ
-source_text s = value_text Page.Line (source_value s)
+source_text s = value_text (source_value s)
 
 -- the settle number of a generation's source, after a space; another source has none
 unfoldable pub settle_number_text : Source → List ℕ
@@ -45,4 +44,4 @@ settle_number_text (Source.Previous seq) = ascii " " ++ decimal seq.0
 settle_number_text Source.Spare = []
 
 unfoldable pub end_text : HeadCompletion → List ℕ
-end_text e = value_text Page.Line (end_value e)
+end_text e = value_text (end_value e)

@@ -17,7 +17,6 @@ use script_report::put_report;
 use script_value::counters::put_stats;
 use slot_text::put_slot;
 use text_put::TextWriter;
-use value_text::page::Page;
 
 // Puts how an attempt ended, or `none`.
 pub(crate) fn put_end(out: &mut TextWriter<'_>, end: HeadCompletion)
@@ -88,14 +87,14 @@ pub fn put_heads(
     installed: Option<ReadAnchor>,
     previous: Option<ReadAnchor>,
 )
-    requires { Room out.old 271 }
-    ensures { Puts out.old out.new 271 (answer_text (Answer.Heads current installed previous)) }
+    requires { Room out.old 277 }
+    ensures { Puts out.old out.new 277 (answer_text (Answer.Heads current installed previous)) }
 {
     out.text(b"(heads ");
-    put_slot(out, Page::Line, current);
+    put_slot(out, current);
     out.byte(b' ');
-    put_slot(out, Page::Line, installed);
+    put_slot(out, installed);
     out.byte(b' ');
-    put_slot(out, Page::Line, previous);
+    put_slot(out, previous);
     out.byte(b')');
 }

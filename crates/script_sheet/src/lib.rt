@@ -14,11 +14,11 @@ use text_put::TextWriter;
 mod life;
 mod mask;
 
-// 2,950 counts 20 digits for each waiter's number; no sheet is longer than 2,652 bytes (`script_lengths`).
+// 2,992 counts 20 digits for each waiter's number; no sheet is longer than 2,694 bytes (`script_lengths`).
 #[tactic(auto, using(text_put::proofs::Writers::wrote_both, crate::proofs::Shown::sheet_shown))]
 pub(crate) fn put_lines(out: &mut TextWriter<'_>, d: Driver)
-    requires { Room out.old 2950 }
-    ensures { Puts out.old out.new 2950 (sheet_text d) }
+    requires { Room out.old 2992 }
+    ensures { Puts out.old out.new 2992 (sheet_text d) }
 {
     put_life(out, d.life);
     put_waiters(out, d.waiters);

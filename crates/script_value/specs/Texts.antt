@@ -5,7 +5,6 @@ use Rattle.text.specs.Ascii.{ascii}
 use Rattle.text.specs.Decimals.{decimal}
 use Rattle.value_text.specs.Values.{values_on}
 use Rattle.head_count.specs.declared.HeadStats.{HeadStats}
-use Rattle.value_text.specs.declared.page.Page.{Page}
 
 unfoldable pub spaced_text : ℕ → List ℕ
 spaced_text n = ascii " " ++ decimal n
@@ -14,4 +13,4 @@ unfoldable pub four_text : ℕ → ℕ → ℕ → ℕ → List ℕ
 four_text a b c d = spaced_text a ++ (spaced_text b ++ (spaced_text c ++ spaced_text d))
 
 unfoldable pub stats_text : HeadStats → List ℕ
-stats_text s = values_on Page.Line (stats_values s) []
+stats_text s = values_on (stats_values s) []

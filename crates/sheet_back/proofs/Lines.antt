@@ -15,8 +15,7 @@ use Rattle.alike.specs.Canon.{shown_head}
 use Rattle.alike.specs.Invariant.{OpenOrAbandoned, WhenGeneration, WhenUnclaimed}
 use Rattle.head_count.specs.Counters.{seq_of}
 use Rattle.head_current.specs.Parts.{delivery_of}
-use Rattle.hash_text.proofs.Back.{sheet_hash_back}
-use Rattle.value_text.proofs.Back.{anchor_back, anchor_form, slot_back}
+use Rattle.value_text.proofs.Back.{anchor_form, sheet_anchor_back, sheet_hash_back, sheet_slot_back}
 use Rattle.value_text.proofs.Keywords.{open_miss, word_hit, word_miss}
 use Rattle.script_back.proofs.Counters.{spaced_back, spaced_run, stats_back}
 use Rattle.script_back.proofs.Outcomes.{cold_kept, report_back}
@@ -27,7 +26,7 @@ use Rattle.value_text.specs.Reads.{got, map, then}
 use Rattle.script_outcome.specs.Texts.{cold_text, readiness_text, report_text}
 use Rattle.script_value.specs.Texts.{spaced_text, stats_text}
 use Rattle.value_text.specs.Texts.{anchor_text}
-use Rattle.value_text.specs.Values.{hash_text, value_text}
+use Rattle.value_text.specs.Values.{value_text}
 use Rattle.value_text.specs.Words.{word_text}
 use Rattle.sheet_lines.specs.Lines.{count_line, current_line, delivery_text, generation_text, installed_line, unclaimed_end_text, previous_line, superseded_line, unsettled_text}
 use Rattle.text.proofs.Back.{past_back, word_back}
@@ -43,7 +42,6 @@ use Rattle.head_current.specs.declared.HeadDelivery.{HeadDelivery}
 use Rattle.head_current.specs.declared.SettledHead.{SettledHead}
 use Rattle.head_current.specs.declared.UnsettledHead.{UnsettledHead}
 use Rattle.head_ready.specs.declared.Generation.{Generation}
-use Rattle.value_text.specs.declared.page.Page.{Page}
 use Rattle.sheet_read.specs.Heads.{head_named, read_count, read_current, read_delivery, read_generation, read_held, read_installed, read_kept_readiness, read_unclaimed_end, read_preparing, read_previous, read_settled, read_superseded, read_unclaimed}
 
 -- ---- count
@@ -59,11 +57,11 @@ count_back s e t f g = rw (count_form s e t) (simp (stats_back, spaced_run, spac
 -- ---- current
 
 delivery_back : (n : ℕ) (held : HeadDelivery) (t : List ℕ) → DeliveryFits held → run t ≡ 0 → read_delivery n (at (delivery_text held ++ t)) ≡ got (delivery_of held.anchor held.parent_hash (seq_of n)) (at t)
-unfolding read_delivery delivery_text hash_text after after_byte
+unfolding read_delivery delivery_text after after_byte
 delivery_back n held t f z =
     let fa = f.anchor in
     let fh = f.parent_hash in
-    simp (append_assoc, anchor_back, sheet_hash_back)
+    simp (append_assoc, sheet_anchor_back, sheet_hash_back)
 
 unclaimed_end_back : (end : HeadCompletion) (t : List ℕ) → OpenOrAbandoned end → run t ≡ 0 → read_unclaimed_end (at (unclaimed_end_text end ++ t)) ≡ got end (at t)
 unfolding read_unclaimed_end unclaimed_end_text same_text run in_word
@@ -143,13 +141,13 @@ module _ (n : ℕ) (e : Epoch) where
 
 pub superseded_back : (s : Option ReadAnchor) (t : List ℕ) → SlotFits s → read_superseded (at (superseded_line s ++ t)) ≡ got s (at t)
 unfolding read_superseded superseded_line then after after_byte run in_word
-superseded_back s t f = simp (append_assoc, slot_back)
+superseded_back s t f = simp (append_assoc, sheet_slot_back)
 
 -- ---- installed and previous
 
 held_form : (g : Generation) (t : List ℕ)
     → generation_text (Some g) ++ t
-    ≡ anchor_text Page.Sheet g.anchor ++ (spaced_text g.handle ++ (spaced_text g.seq.0 ++ (ascii " " ++ (readiness_text g.readiness ++ t))))
+    ≡ anchor_text g.anchor ++ (spaced_text g.handle ++ (spaced_text g.seq.0 ++ (ascii " " ++ (readiness_text g.readiness ++ t))))
 unfolding generation_text
 held_form g t = simp append_assoc
 
@@ -172,7 +170,7 @@ held_back g t k f z =
     let fh = f.handle in
     let fn = f.seq in
     let fr = f.readiness in
-    rw (held_form g t) (simp (anchor_back, spaced_run, spaced_back, kept_back))
+    rw (held_form g t) (simp (sheet_anchor_back, spaced_run, spaced_back, kept_back))
 
 generation_back : (g : Option Generation) (t : List ℕ) → WhenGeneration g (λ g. KeptReadiness g.readiness) → GenerationSlotFits g
     → run t ≡ 0 → read_generation (at (generation_text g ++ t)) ≡ got g (at t)
@@ -181,7 +179,7 @@ generation_back None t k f z = word_hit _ _ t z (ascii "none") refl
 generation_back (Some g) t k f z = held_open g t ∙ held_back g t k f z
   where
     held_open : (g : Generation) (t : List ℕ) → read_generation (at (generation_text (Some g) ++ t)) ≡ read_held (at (generation_text (Some g) ++ t))
-    held_open g t = rw (held_form g t, anchor_form Page.Sheet g.anchor) (open_miss _ _ _ _ _)
+    held_open g t = rw (held_form g t, anchor_form g.anchor) (open_miss _ _ _ _ _)
 
 pub installed_back : (g : Option Generation) (t : List ℕ) → WhenGeneration g (λ g. KeptReadiness g.readiness) → GenerationSlotFits g
     → read_installed (at (installed_line g ++ t)) ≡ got g (at t)

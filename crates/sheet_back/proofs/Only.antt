@@ -3,11 +3,7 @@ use Prim.Native.Nat.{ℕ}
 use mathlib.Core.Bool.{Bool, true, false}
 use mathlib.Core.List.{List, ◌++◌, append_assoc}
 use mathlib.Core.Path.{◌≡◌, refl, ap, sym, ◌∙◌}
-use Rattle.std.specs.Prelude.{Option, None, Some, cond}
-use Rattle.hash.specs.declared.Hash.{Hash}
-use Rattle.hash_text.specs.Reads.{hash_got, read_sheet_hash}
-use Rattle.hash_text.specs.SheetHashes.{sheet_hash, sheet_hash_text}
-use Rattle.hash_text.proofs.Only.{sheet_hash_only}
+use Rattle.std.specs.Prelude.{cond}
 use Rattle.head_values.specs.Values.{fault_value, outcome_value}
 use Rattle.head_values.specs.Words.{Word}
 use Rattle.head_count.specs.declared.Epoch.{Epoch}
@@ -18,12 +14,11 @@ use Rattle.text.specs.Ascii.{ascii}
 use Rattle.text.specs.Rests.{Rest, Took, after, at, past_word, says, word_here}
 use Rattle.text.specs.Same.{same_text}
 use Rattle.text.proofs.Same.{same_eq}
-use Rattle.value_text.proofs.Only.{after_only, anchor_read, chosen_only, past_only, says_only, skip_read, slot_read, spaced_number_only}
+use Rattle.value_text.proofs.Only.{after_only, chosen_only, past_only, says_only, sheet_anchor_read, sheet_hash_read, sheet_slot_read, skip_read, spaced_number_only}
 use Rattle.value_text.specs.Reads.{got, map, or_word, spaced_number, then}
 use Rattle.value_text.specs.Texts.{fault_text}
-use Rattle.value_text.specs.Values.{hash_text, value_text}
+use Rattle.value_text.specs.Values.{value_text}
 use Rattle.value_text.specs.Words.{word_text}
-use Rattle.value_text.specs.declared.page.Page.{Page}
 use Rattle.script_value.specs.Texts.{spaced_text, stats_text}
 use Rattle.script_outcome.specs.Texts.{cold_text, outcome_text, readiness_text, report_text}
 use Rattle.script_back.proofs.Counters.{stats_form}
@@ -94,19 +89,10 @@ report_only r t =
 
 -- ---- current and superseded
 
-hash_only : (r : Rest) (t : List ℕ) → (read_sheet_hash r).next ≡ at t → r ≡ at (hash_text Page.Sheet (read_sheet_hash r).value ++ t)
-unfolding read_sheet_hash hash_got hash_text
-hash_only r t e = go (sheet_hash (word_here r)) refl e
-  where
-    go : (m : Option Hash) → sheet_hash (word_here r) ≡ m → (hash_got m (past_word r)).next ≡ at t
-        → r ≡ at (sheet_hash_text (hash_got m (past_word r)).value ++ t)
-    go (Some h) f g = rw (sheet_hash_only (word_here r) h f).0 at (past_only r t g)
-    go None f g = cc
-
 delivery_only : (n : ℕ) (r : Rest) (t : List ℕ) → (read_delivery n r).next ≡ at t → r ≡ at (delivery_text (read_delivery n r).value ++ t)
 unfolding read_delivery delivery_text
 delivery_only n r t e =
-    anchor_read Page.Sheet _ _ (after_only (ascii " ") _ _ (hash_only _ t e)) ∙ simp append_assoc
+    sheet_anchor_read _ _ (after_only (ascii " ") _ _ (sheet_hash_read _ t e)) ∙ simp append_assoc
 
 end_only : (r : Rest) (t : List ℕ) → (read_unclaimed_end r).next ≡ at t → r ≡ at (unclaimed_end_text (read_unclaimed_end r).value ++ t)
 unfolding read_unclaimed_end or_word unclaimed_end_text
@@ -166,7 +152,7 @@ current_only n e r t h =
 pub superseded_only : (r : Rest) (t : List ℕ) → (read_superseded r).next ≡ at t → r ≡ at (superseded_line (read_superseded r).value ++ t)
 unfolding read_superseded then superseded_line
 superseded_only r t e =
-    after_only (ascii "(superseded ") r _ (slot_read Page.Sheet _ _ (after_only (ascii ")\n") _ t e)) ∙ simp append_assoc
+    after_only (ascii "(superseded ") r _ (sheet_slot_read _ _ (after_only (ascii ")\n") _ t e)) ∙ simp append_assoc
 
 -- ---- installed and previous
 
@@ -180,7 +166,7 @@ kept_only r t =
 held_only : (r : Rest) (t : List ℕ) → (read_held r).next ≡ at t → r ≡ at (generation_text (read_held r).value ++ t)
 unfolding read_held generation_text
 held_only r t e =
-    anchor_read Page.Sheet _ _ (number_only _ _ (number_only _ _ (after_only (ascii " ") _ _ (kept_only _ t e)))) ∙ simp append_assoc
+    sheet_anchor_read _ _ (number_only _ _ (number_only _ _ (after_only (ascii " ") _ _ (kept_only _ t e)))) ∙ simp append_assoc
 
 generation_only : (r : Rest) (t : List ℕ) → (read_generation r).next ≡ at t → r ≡ at (generation_text (read_generation r).value ++ t)
 unfolding read_generation or_word

@@ -6,7 +6,6 @@ use lib.Dec.{lit<}
 use lib.ListN.{length}
 use Rattle.std.specs.Prelude.{Option}
 use Rattle.hash.specs.Ranges.{Fits}
-use Rattle.hash_text.proofs.Only.{sheet_hash_range}
 use Rattle.head_values.specs.Ranges.{OutcomeFits, SkipFits, SlotFits}
 use Rattle.head_values.specs.declared.CarryOutcome.{CarryOutcome}
 use Rattle.head_attempt.specs.Attempts.{minted, settled}
@@ -26,7 +25,7 @@ use Rattle.alike.specs.Ranges.{WaiterFits, WaitersFit}
 use Rattle.text.specs.Ascii.{ascii}
 use Rattle.text.specs.Rests.{Rest, Took, after, says, word_here}
 use Rattle.text.specs.Same.{same_text}
-use Rattle.value_text.proofs.Ranges.{anchor_range, chosen, skip_range, slot_range, spaced_number_range}
+use Rattle.value_text.proofs.Ranges.{anchor_range, chosen, hash_range, skip_range, slot_range, spaced_number_range}
 use Rattle.value_text.specs.Reads.{map, or_word, then}
 use Rattle.value_text.specs.Words.{word_text}
 use Rattle.value_text.specs.declared.page.Page.{Page}
@@ -91,7 +90,7 @@ end_kept r =
 module _ (n : ℕ) (e : Epoch) (f : Fits n) (g : Fits e.0) where
   delivery_range : (r : Rest) → DeliveryFits (read_delivery n r).value
   unfolding read_delivery
-  delivery_range r = record { anchor = anchor_range Page.Sheet _; parent_hash = sheet_hash_range _; seq = f }
+  delivery_range r = record { anchor = anchor_range Page.Sheet _; parent_hash = hash_range Page.Sheet _; seq = f }
 
   unclaimed_shows : (r : Rest) → Shows n e (read_unclaimed n r).value
   unfolding read_unclaimed shown_head read_delivery

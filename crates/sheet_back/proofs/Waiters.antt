@@ -8,7 +8,7 @@ use lib.ListN.{length}
 use borrow.Author.Tests.{eq-eqb, ne_eqb}
 use Rattle.head_values.specs.Ranges.{AnchorFits}
 use Rattle.alike.specs.Ranges as A
-use Rattle.value_text.proofs.Back.{anchor_back}
+use Rattle.value_text.proofs.Back.{sheet_anchor_back}
 use Rattle.hash.specs.Ranges.{Fits}
 use Rattle.value_text.specs.Reads.{got, map, then}
 use Rattle.value_text.specs.Texts.{anchor_text}
@@ -22,7 +22,6 @@ use Rattle.text.specs.Words.{in_word, run}
 use Rattle.head_values.specs.declared.ReadAnchor.{ReadAnchor}
 use Rattle.head_attempt.specs.declared.Waiter.{Waiter}
 use Rattle.head_attempt.specs.declared.WaiterSlot.{WaiterSlot}
-use Rattle.value_text.specs.declared.page.Page.{Page}
 use Rattle.sheet_read.specs.Waiters.{going, names, read_waiter, read_waiter_at, read_waiters, waiter_named}
 
 -- what a line of a waiter says after its number, and the number that the next line goes on with
@@ -45,21 +44,21 @@ unfolding waiter_named same_text then after after_byte run in_word
 parked_back t = named (ascii "parked") (ascii ")\n" ++ t) refl refl
 
 module _ (a : ReadAnchor) (t : List ℕ) (f : AnchorFits a) where
-  abandoned_named : then (ascii ")\n") (waiter_named (ascii "abandoned") (at (ascii " " ++ (anchor_text Page.Sheet a ++ (ascii ")\n" ++ t))))) ≡ got (Waiter.Abandoned a) (at t)
+  abandoned_named : then (ascii ")\n") (waiter_named (ascii "abandoned") (at (ascii " " ++ (anchor_text a ++ (ascii ")\n" ++ t))))) ≡ got (Waiter.Abandoned a) (at t)
   unfolding waiter_named same_text then map after after_byte
-  abandoned_named = let fa = f in simp anchor_back
+  abandoned_named = let fa = f in simp sheet_anchor_back
 
-  ended_named : then (ascii ")\n") (waiter_named (ascii "ended") (at (ascii " " ++ (anchor_text Page.Sheet a ++ (ascii ")\n" ++ t))))) ≡ got (Waiter.Ended a) (at t)
+  ended_named : then (ascii ")\n") (waiter_named (ascii "ended") (at (ascii " " ++ (anchor_text a ++ (ascii ")\n" ++ t))))) ≡ got (Waiter.Ended a) (at t)
   unfolding waiter_named same_text then map after after_byte
-  ended_named = let fa = f in simp anchor_back
+  ended_named = let fa = f in simp sheet_anchor_back
 
-  abandoned_back : read_waiter (at (ascii " abandoned " ++ (anchor_text Page.Sheet a ++ (ascii ")\n" ++ t)))) ≡ got (Waiter.Abandoned a) (at t)
+  abandoned_back : read_waiter (at (ascii " abandoned " ++ (anchor_text a ++ (ascii ")\n" ++ t)))) ≡ got (Waiter.Abandoned a) (at t)
   unfolding run in_word
-  abandoned_back = named (ascii "abandoned") (ascii " " ++ (anchor_text Page.Sheet a ++ (ascii ")\n" ++ t))) refl refl ∙ abandoned_named
+  abandoned_back = named (ascii "abandoned") (ascii " " ++ (anchor_text a ++ (ascii ")\n" ++ t))) refl refl ∙ abandoned_named
 
-  ended_back : read_waiter (at (ascii " ended " ++ (anchor_text Page.Sheet a ++ (ascii ")\n" ++ t)))) ≡ got (Waiter.Ended a) (at t)
+  ended_back : read_waiter (at (ascii " ended " ++ (anchor_text a ++ (ascii ")\n" ++ t)))) ≡ got (Waiter.Ended a) (at t)
   unfolding run in_word
-  ended_back = named (ascii "ended") (ascii " " ++ (anchor_text Page.Sheet a ++ (ascii ")\n" ++ t))) refl refl ∙ ended_named
+  ended_back = named (ascii "ended") (ascii " " ++ (anchor_text a ++ (ascii ")\n" ++ t))) refl refl ∙ ended_named
 
 -- ---- one waiter
 
@@ -68,11 +67,11 @@ module _ (n : ℕ) (t : List ℕ) where
   unfolding waiter_line
   parked_form = simp append_assoc
 
-  abandoned_form : (a : ReadAnchor) → waiter_line n (Waiter.Abandoned a) ++ t ≡ ascii "(wait " ++ (decimal n ++ (ascii " abandoned " ++ (anchor_text Page.Sheet a ++ (ascii ")\n" ++ t))))
+  abandoned_form : (a : ReadAnchor) → waiter_line n (Waiter.Abandoned a) ++ t ≡ ascii "(wait " ++ (decimal n ++ (ascii " abandoned " ++ (anchor_text a ++ (ascii ")\n" ++ t))))
   unfolding waiter_line
   abandoned_form a = simp append_assoc
 
-  ended_form : (a : ReadAnchor) → waiter_line n (Waiter.Ended a) ++ t ≡ ascii "(wait " ++ (decimal n ++ (ascii " ended " ++ (anchor_text Page.Sheet a ++ (ascii ")\n" ++ t))))
+  ended_form : (a : ReadAnchor) → waiter_line n (Waiter.Ended a) ++ t ≡ ascii "(wait " ++ (decimal n ++ (ascii " ended " ++ (anchor_text a ++ (ascii ")\n" ++ t))))
   unfolding waiter_line
   ended_form a = simp append_assoc
 

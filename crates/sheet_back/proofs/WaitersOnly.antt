@@ -12,7 +12,7 @@ use Rattle.text.specs.Decimals.{decimal}
 use Rattle.text.specs.Rests.{Rest, Took, after, at, past_word, read_number, word_here}
 use Rattle.text.specs.Same.{same_text}
 use Rattle.text.proofs.Same.{same_eq}
-use Rattle.value_text.proofs.Only.{after_only, anchor_read, number_read, past_only}
+use Rattle.value_text.proofs.Only.{after_only, number_read, past_only, sheet_anchor_read}
 use Rattle.value_text.specs.Reads.{got, map, read_anchor, then}
 use Rattle.value_text.specs.declared.page.Page.{Page}
 use Rattle.sheet_lines.specs.Lines.{waiter_line, waiter_lines}
@@ -30,11 +30,11 @@ module _ (n : ℕ) (r : Rest) (t : List ℕ) where
 
   abandoned_only : Told n (ascii "abandoned") r t (map Waiter.Abandoned (read_anchor Page.Sheet (after (ascii " ") r)))
   unfolding Told waiter_line map
-  abandoned_only h = (_, after_only (ascii " ") _ _ (anchor_read Page.Sheet _ _ h), simp append_assoc)
+  abandoned_only h = (_, after_only (ascii " ") _ _ (sheet_anchor_read _ _ h), simp append_assoc)
 
   ended_only : Told n (ascii "ended") r t (map Waiter.Ended (read_anchor Page.Sheet (after (ascii " ") r)))
   unfolding Told waiter_line map
-  ended_only h = (_, after_only (ascii " ") _ _ (anchor_read Page.Sheet _ _ h), simp append_assoc)
+  ended_only h = (_, after_only (ascii " ") _ _ (sheet_anchor_read _ _ h), simp append_assoc)
 
   by_name : (w k : List ℕ) (x y : Took Waiter) → Told n k r t x → Told n w r t y → Told n w r t (cond (same_text w k) x y)
   by_name w k x y f g = go (same_text w k) refl

@@ -1,5 +1,7 @@
 -- What is proved of sheets.
-use Rattle.std.specs.Prelude.{ℕ, List, Some, ◌↔◌, ◌≡◌}
+use Rattle.std.specs.Char.{is_ascii_uppercase}
+use Rattle.std.specs.List.{list_any}
+use Rattle.std.specs.Prelude.{ℕ, List, Some, false, ◌↔◌, ◌≡◌}
 use Rattle.alike.specs.Canon.{canon}
 use Rattle.alike.specs.Invariant.{Invariant}
 use Rattle.script_sheet.specs.Sheets.{sheet_text}
@@ -18,3 +20,7 @@ EqualSheets = (d₁ d₂ : Driver) → Invariant d₁ → Invariant d₂ → (sh
 -- A text reads as a driver exactly when it is in sheet form, and is that driver's lines.
 abbrev pub FormRead : Type 0
 FormRead = (text : List ℕ) (d : Driver) → (read_sheet text ≡ Some d) ↔ SheetForm text d
+
+-- Document 02, Job 3: "A sheet with capitals is not in sheet form."
+abbrev pub NoCapitals : Type 0
+NoCapitals = (text : List ℕ) (d : Driver) → SheetForm text d → list_any is_ascii_uppercase text ≡ false

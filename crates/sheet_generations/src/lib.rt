@@ -12,14 +12,13 @@ use script_ready::put_readiness;
 use script_value::counters::put_spaced;
 use text_put::TextWriter;
 use value_text::anchor::put_anchor;
-use value_text::page::Page;
 
 // Puts `A H N READINESS`: the one place where what follows a generation's handle is written.
 pub(crate) fn put_held(out: &mut TextWriter<'_>, held: Generation)
-    requires { Room out.old 182 }
-    ensures { Puts out.old out.new 182 (generation_text (Some held)) }
+    requires { Room out.old 184 }
+    ensures { Puts out.old out.new 184 (generation_text (Some held)) }
 {
-    put_anchor(out, Page::Sheet, held.anchor);
+    put_anchor(out, held.anchor);
     put_spaced(out, held.handle);
     put_spaced(out, held.seq.0);
     out.byte(b' ');
@@ -28,8 +27,8 @@ pub(crate) fn put_held(out: &mut TextWriter<'_>, held: Generation)
 
 // Puts a generation, or `none`.
 pub(crate) fn put_generation(out: &mut TextWriter<'_>, slot: Option<Generation>)
-    requires { Room out.old 182 }
-    ensures { Puts out.old out.new 182 (generation_text slot) }
+    requires { Room out.old 184 }
+    ensures { Puts out.old out.new 184 (generation_text slot) }
 {
     match slot {
         None => out.text(b"none"),
@@ -39,8 +38,8 @@ pub(crate) fn put_generation(out: &mut TextWriter<'_>, slot: Option<Generation>)
 
 // Puts a line that begins with a bracket and the generation's name.
 pub(crate) fn put_line(out: &mut TextWriter<'_>, name: &[u8], slot: Option<Generation>)
-    requires { Room out.old (length name.now + 184) }
-    ensures { Puts out.old out.new (length name.now + 184) (name.now ++ (generation_text slot ++ ascii ")\n")) }
+    requires { Room out.old (length name.now + 186) }
+    ensures { Puts out.old out.new (length name.now + 186) (name.now ++ (generation_text slot ++ ascii ")\n")) }
 {
     out.text(name);
     put_generation(out, slot);
@@ -53,8 +52,8 @@ pub fn put_generations(
     installed: Option<Generation>,
     previous: Option<Generation>,
 )
-    requires { Room out.old 389 }
-    ensures { Puts out.old out.new 389 (installed_line installed ++ previous_line previous) }
+    requires { Room out.old 393 }
+    ensures { Puts out.old out.new 393 (installed_line installed ++ previous_line previous) }
 {
     put_line(out, b"(installed ", installed);
     put_line(out, b"(previous ", previous);

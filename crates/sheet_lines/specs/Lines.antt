@@ -5,7 +5,7 @@ use Rattle.std.specs.Prelude.{ℕ, suc, List, [], ◌∷◌, ◌++◌, Option, N
 use Rattle.script_outcome.specs.Texts.{readiness_text, report_text}
 use Rattle.script_value.specs.Texts.{spaced_text, stats_text}
 use Rattle.value_text.specs.Texts.{anchor_text, slot_text}
-use Rattle.value_text.specs.Values.{hash_text}
+use Rattle.hash_text.specs.Texts.{hash_text}
 use Rattle.text.specs.Ascii.{ascii}
 use Rattle.text.specs.Decimals.{decimal}
 use Rattle.head_count.specs.declared.Epoch.{Epoch}
@@ -16,7 +16,6 @@ use Rattle.head_attempt.specs.declared.WaiterSlot.{WaiterSlot}
 use Rattle.head_current.specs.declared.CurrentHead.{CurrentHead}
 use Rattle.head_current.specs.declared.HeadDelivery.{HeadDelivery}
 use Rattle.head_current.specs.declared.UnsettledHead.{UnsettledHead}
-use Rattle.value_text.specs.declared.page.Page.{Page}
 
 -- count: eight counters, then epoch
 unfoldable pub count_line : HeadStats → Epoch → List ℕ
@@ -31,7 +30,7 @@ unclaimed_end_text HeadCompletion.Abandoned = ascii "abandoned"
 
 -- `A P`
 unfoldable pub delivery_text : HeadDelivery → List ℕ
-delivery_text held = anchor_text Page.Sheet held.anchor ++ (ascii " " ++ hash_text Page.Sheet held.parent_hash)
+delivery_text held = anchor_text held.anchor ++ (ascii " " ++ hash_text held.parent_hash)
 
 -- `A P H`
 unfoldable pub unsettled_text : UnsettledHead → List ℕ
@@ -46,13 +45,13 @@ current_line (CurrentHead.Settled s) = ascii "(current settled " ++ (delivery_te
 
 -- `(superseded A)`
 unfoldable pub superseded_line : Option ReadAnchor → List ℕ
-superseded_line s = ascii "(superseded " ++ (slot_text Page.Sheet s ++ ascii ")\n")
+superseded_line s = ascii "(superseded " ++ (slot_text s ++ ascii ")\n")
 
 -- `A H READINESS`; document 02, Job 1, "in the same place", after the handle: `A H N READINESS`
 unfoldable pub generation_text : Option Generation → List ℕ
 generation_text None = ascii "none"
 generation_text (Some g) =
-    anchor_text Page.Sheet g.anchor
+    anchor_text g.anchor
     ++ (spaced_text g.handle ++ (spaced_text g.seq.0 ++ (ascii " " ++ readiness_text g.readiness)))
 
 -- `(installed A H N READINESS)` and `(previous A H N READINESS)`
@@ -66,8 +65,8 @@ previous_line g = ascii "(previous " ++ (generation_text g ++ ascii ")\n")
 unfoldable pub waiter_line : ℕ → Waiter → List ℕ
 waiter_line n Waiter.Free = []
 waiter_line n Waiter.Parked = ascii "(wait " ++ (decimal n ++ ascii " parked)\n")
-waiter_line n (Waiter.Abandoned a) = ascii "(wait " ++ (decimal n ++ (ascii " abandoned " ++ (anchor_text Page.Sheet a ++ ascii ")\n")))
-waiter_line n (Waiter.Ended a) = ascii "(wait " ++ (decimal n ++ (ascii " ended " ++ (anchor_text Page.Sheet a ++ ascii ")\n")))
+waiter_line n (Waiter.Abandoned a) = ascii "(wait " ++ (decimal n ++ (ascii " abandoned " ++ (anchor_text a ++ ascii ")\n")))
+waiter_line n (Waiter.Ended a) = ascii "(wait " ++ (decimal n ++ (ascii " ended " ++ (anchor_text a ++ ascii ")\n")))
 
 -- each waiter not free, ascending, from number n on
 unfoldable pub waiter_lines : ℕ → List WaiterSlot → List ℕ

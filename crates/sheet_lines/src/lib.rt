@@ -1,6 +1,6 @@
 // The lines of a sheet, and the writers of its first three, each with its line feed, into a lent buffer: the counters, the current head, the superseded anchor.
 // Knows nothing of what a sheet leaves out.
-#![tactic(auto, using(text_put::proofs::Writers::wrote_both), unfolding(crate::specs::Lines::unclaimed_end_text, crate::specs::Lines::delivery_text, value_text::specs::Values::hash_text, crate::specs::Lines::unsettled_text, crate::specs::Lines::current_line))]
+#![tactic(auto, using(text_put::proofs::Writers::wrote_both), unfolding(crate::specs::Lines::unclaimed_end_text, crate::specs::Lines::delivery_text, crate::specs::Lines::unsettled_text, crate::specs::Lines::current_line))]
 
 ghost use Rattle.std.specs.Prelude.{◌++◌};
 ghost use Rattle.script_outcome.specs.Texts.{report_text};
@@ -18,7 +18,6 @@ use script_report::put_report;
 use script_value::counters::put_spaced;
 use text_put::TextWriter;
 use value_text::anchor::put_anchor;
-use value_text::page::Page;
 
 mod lines;
 
@@ -35,26 +34,26 @@ pub(crate) fn put_unclaimed_end(out: &mut TextWriter<'_>, end: HeadCompletion)
 
 // Puts `A P`.
 pub(crate) fn put_delivery(out: &mut TextWriter<'_>, held: HeadDelivery)
-    requires { Room out.old 152 }
-    ensures { Puts out.old out.new 152 (delivery_text held) }
+    requires { Room out.old 156 }
+    ensures { Puts out.old out.new 156 (delivery_text held) }
 {
-    put_anchor(out, Page::Sheet, held.anchor);
+    put_anchor(out, held.anchor);
     out.byte(b' ');
     put_hash(out, held.parent_hash);
 }
 
 // Puts `A P H`.
 pub(crate) fn put_unsettled(out: &mut TextWriter<'_>, head: UnsettledHead)
-    requires { Room out.old 173 }
-    ensures { Puts out.old out.new 173 (unsettled_text head) }
+    requires { Room out.old 177 }
+    ensures { Puts out.old out.new 177 (unsettled_text head) }
 {
     put_delivery(out, head.delivery);
     put_spaced(out, head.provisional);
 }
 
 pub(crate) fn put_unclaimed(out: &mut TextWriter<'_>, head: UnsettledHead)
-    requires { Room out.old 204 }
-    ensures { Puts out.old out.new 204 (current_line (CurrentHead.Unclaimed head)) }
+    requires { Room out.old 208 }
+    ensures { Puts out.old out.new 208 (current_line (CurrentHead.Unclaimed head)) }
 {
     out.text(b"(current unclaimed ");
     put_unsettled(out, head);
@@ -62,8 +61,8 @@ pub(crate) fn put_unclaimed(out: &mut TextWriter<'_>, head: UnsettledHead)
 }
 
 pub(crate) fn put_preparing(out: &mut TextWriter<'_>, head: UnsettledHead)
-    requires { Room out.old 194 }
-    ensures { Puts out.old out.new 194 (current_line (CurrentHead.Preparing head)) }
+    requires { Room out.old 198 }
+    ensures { Puts out.old out.new 198 (current_line (CurrentHead.Preparing head)) }
 {
     out.text(b"(current preparing ");
     put_unsettled(out, head);
@@ -81,8 +80,8 @@ pub(crate) fn put_told(out: &mut TextWriter<'_>, report: Option<DeltaReport>)
 }
 
 pub(crate) fn put_settled(out: &mut TextWriter<'_>, head: SettledHead)
-    requires { Room out.old 247 }
-    ensures { Puts out.old out.new 247 (current_line (CurrentHead.Settled head)) }
+    requires { Room out.old 251 }
+    ensures { Puts out.old out.new 251 (current_line (CurrentHead.Settled head)) }
 {
     out.text(b"(current settled ");
     put_delivery(out, head.delivery);
@@ -90,8 +89,8 @@ pub(crate) fn put_settled(out: &mut TextWriter<'_>, head: SettledHead)
 }
 
 pub(crate) fn put_current(out: &mut TextWriter<'_>, current: CurrentHead)
-    requires { Room out.old 247 }
-    ensures { Puts out.old out.new 247 (current_line current) }
+    requires { Room out.old 251 }
+    ensures { Puts out.old out.new 251 (current_line current) }
 {
     match current {
         CurrentHead::Absent => out.text(b"(current none)\n"),
@@ -109,8 +108,8 @@ pub fn put_count_to_superseded(
     current: CurrentHead,
     superseded: Option<ReadAnchor>,
 )
-    requires { Room out.old 545 }
-    ensures { Puts out.old out.new 545 (count_line stats epoch ++ (current_line current ++ superseded_line superseded)) }
+    requires { Room out.old 551 }
+    ensures { Puts out.old out.new 551 (count_line stats epoch ++ (current_line current ++ superseded_line superseded)) }
 {
     put_count(out, stats, epoch);
     put_current(out, current);

@@ -9,7 +9,6 @@ use head_values::ReadAnchor;
 use script_value::counters::{put_spaced, put_stats};
 use slot_text::put_slot;
 use text_put::TextWriter;
-use value_text::page::Page;
 
 // Puts the eight counters, then the epoch.
 pub(crate) fn put_count(out: &mut TextWriter<'_>, stats: HeadStats, epoch: Epoch)
@@ -23,10 +22,10 @@ pub(crate) fn put_count(out: &mut TextWriter<'_>, stats: HeadStats, epoch: Epoch
 }
 
 pub(crate) fn put_superseded(out: &mut TextWriter<'_>, superseded: Option<ReadAnchor>)
-    requires { Room out.old 101 }
-    ensures { Puts out.old out.new 101 (superseded_line superseded) }
+    requires { Room out.old 103 }
+    ensures { Puts out.old out.new 103 (superseded_line superseded) }
 {
     out.text(b"(superseded ");
-    put_slot(out, Page::Sheet, superseded);
+    put_slot(out, superseded);
     out.text(b")\n");
 }

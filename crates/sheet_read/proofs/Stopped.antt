@@ -12,11 +12,8 @@ use Rattle.text.specs.Decimals.{number}
 use Rattle.text.specs.Same.{same_text}
 use Rattle.value_text.specs.Reads.{got, map, or_word, read_anchor, then}
 use Rattle.value_text.specs.Words.{word_text}
-use Rattle.value_read.proofs.Stopped.{anchor_stopped, skip_stopped, slot_stopped, spaced_number_stopped}
+use Rattle.value_read.proofs.Stopped.{anchor_stopped, hash_stopped, skip_stopped, slot_stopped, spaced_number_stopped}
 use Rattle.head_count.specs.declared.Epoch.{Epoch}
-use Rattle.hash_text.specs.Hex.{hex_hash}
-use Rattle.hash_text.specs.Reads.{hash_got, read_sheet_hash}
-use Rattle.hash_text.specs.SheetHashes.{sheet_hash}
 use Rattle.sheet_read.specs.Heads.{head_named, read_current, read_delivery, read_generation, read_held, read_installed, read_kept_readiness, read_previous, read_superseded, read_unclaimed_end}
 use Rattle.sheet_read.specs.Values.{read_cold, read_fault, read_faulty, read_made, read_outcome, read_report, read_stats}
 use Rattle.sheet_read.specs.Waiters.{going, names, read_waiter, read_waiter_at, read_waiters, waiter_named}
@@ -42,10 +39,6 @@ stats_stopped = rw (
   spaced_number_stopped,
   spaced_number_stopped,
 ) refl
-
-pub sheet_hash_stopped : (read_sheet_hash stopped).next ≡ stopped
-unfolding read_sheet_hash hash_got word_here sheet_hash hex_hash
-sheet_hash_stopped = refl
 
 pub fault_stopped : (read_fault stopped).next ≡ stopped
 unfolding read_fault read_faulty or_word word_text says same_text word_here
@@ -73,7 +66,7 @@ unclaimed_end_stopped = refl
 
 pub delivery_stopped : (n : ℕ) → (read_delivery n stopped).next ≡ stopped
 unfolding read_delivery
-delivery_stopped n = rw (anchor_stopped Page.Sheet, text_stopped (ascii " ")) sheet_hash_stopped
+delivery_stopped n = rw (anchor_stopped Page.Sheet, text_stopped (ascii " ")) (hash_stopped Page.Sheet)
 
 pub current_stopped : (n : ℕ) (e : Epoch) → (read_current n e stopped).next ≡ stopped
 unfolding read_current then after after_byte word_here past_word past head_named same_text

@@ -6,11 +6,10 @@ use Rattle.head_values.specs.Words.{Word}
 use Rattle.head_attempt.specs.Attempts.{minted, settled}
 use Rattle.head_count.specs.Counters.{epoch_of, seq_of}
 use Rattle.head_current.specs.Parts.{delivery_of}
-use Rattle.hash_text.specs.Reads.{read_sheet_hash}
 use Rattle.sheet_read.specs.Values.{cold_readiness, read_cold, read_report, read_stats}
 use Rattle.sheet_read.specs.declared.counts.Counts.{Counts}
 use Rattle.head_ready.specs.declared.HeadReadiness.{HeadReadiness}
-use Rattle.value_text.specs.Reads.{got, map, or_word, read_anchor, read_slot, spaced_number, then}
+use Rattle.value_text.specs.Reads.{got, map, or_word, read_anchor, read_hash, read_slot, spaced_number, then}
 use Rattle.value_text.specs.Words.{word_text}
 use Rattle.text.specs.Ascii.{ascii}
 use Rattle.text.specs.Rests.{Rest, Took, after, past_word, stopped, word_here}
@@ -35,7 +34,7 @@ read_count r =
 unfoldable pub read_delivery : ℕ → Rest → Took HeadDelivery
 read_delivery delivered r =
     let anchor = read_anchor Page.Sheet r in
-    let parent = read_sheet_hash (after (ascii " ") anchor.next) in
+    let parent = read_hash Page.Sheet (after (ascii " ") anchor.next) in
     got (delivery_of anchor.value parent.value (seq_of delivered)) parent.next
 
 unfoldable pub read_unclaimed_end : Rest → Took HeadCompletion

@@ -1,35 +1,26 @@
 // The lines of the current head and of the superseded anchor.
 ghost use Rattle.line_reader.specs.Reads.{rest, Reads};
-ghost use Rattle.hash_text.specs.Reads.{read_sheet_hash};
 ghost use Rattle.sheet_read.specs.Heads.{head_named, read_current, read_delivery, read_preparing, read_settled, read_superseded, read_unclaimed, read_unclaimed_end};
 
 use crate::outcome::take_report;
-use hash::Hash;
 use head_attempt::{ClaimAttempt, HeadCompletion};
 use head_count::{Epoch, Seq};
 use head_current::{CurrentHead, HeadDelivery, SettledHead, UnsettledHead};
 use head_values::ReadAnchor;
 use line_reader::LineReader;
-use value_read::anchor::{hash_said, take_anchor, take_slot};
+use value_read::anchor::{take_anchor, take_hash, take_slot};
 use value_read::given::past_text;
 use value_read::number::spaced_number;
 use value_text::page::Page;
 
-#[tactic(auto, unfolding(hash_text::specs::Reads::read_sheet_hash, hash_text::specs::Reads::hash_got, value_text::specs::Reads::hash_said))]
-pub(crate) fn take_sheet_hash(r: &mut LineReader<'_>) -> Option<Hash>
-    ensures { Reads r.old r.new result (read_sheet_hash (rest r.old)) }
-{
-    hash_said(Page::Sheet, r.take_word())
-}
-
 // `A P`
-#[tactic(auto, using(value_read::proofs::Stopped::byte_stopped, value_read::proofs::Stopped::anchor_stopped, crate::proofs::Stopped::sheet_hash_stopped), unfolding(crate::specs::Heads::read_delivery))]
+#[tactic(auto, using(value_read::proofs::Stopped::byte_stopped, value_read::proofs::Stopped::anchor_stopped, value_read::proofs::Stopped::hash_stopped), unfolding(crate::specs::Heads::read_delivery))]
 pub(crate) fn take_delivery(r: &mut LineReader<'_>, delivered: u64) -> Option<HeadDelivery>
     ensures { Reads r.old r.new result (read_delivery delivered (rest r.old)) }
 {
     let anchor = take_anchor(r, Page::Sheet)?;
     r.past_byte(b' ')?;
-    let parent_hash = take_sheet_hash(r)?;
+    let parent_hash = take_hash(r, Page::Sheet)?;
     Some(HeadDelivery {
         anchor,
         parent_hash,

@@ -1,5 +1,5 @@
 -- Document 02, Job 2: "in sheet form", apart from how a sheet is read. A text is in sheet form where it is the lines, as document 01 and
--- Job 1 write them, of a driver that holds just what a sheet shows.
+-- Jobs 1 and 3 write them, of a driver that holds just what a sheet shows.
 use Rattle.std.specs.Prelude.{ℕ, List, ◌≡◌}
 use Rattle.head_count.specs.Counters.{seq_of}
 use Rattle.head_ready.specs.declared.HeadCold.{HeadCold}

@@ -8,14 +8,12 @@ ghost use Rattle.text.specs.Ascii.{ascii};
 ghost use Rattle.text.specs.Decimals.{decimal};
 ghost use Rattle.text_put.specs.Writers.{Puts, Room};
 ghost use Rattle.value_text.specs.Texts.{anchor_text};
-ghost use Rattle.value_text.specs.declared.page.Page.{Page};
 
 use head_attempt::{Waiter, WaiterSlot};
 use head_values::ReadAnchor;
 use number_text::put_decimal;
 use text_put::TextWriter;
 use value_text::anchor::put_anchor;
-use value_text::page::Page;
 
 // Puts `(wait N`, as every line of a waiter begins.
 pub(crate) fn put_number(out: &mut TextWriter<'_>, n: u64)
@@ -28,18 +26,18 @@ pub(crate) fn put_number(out: &mut TextWriter<'_>, n: u64)
 
 // Puts the end of a preparation, a word between spaces, and the anchor that was prepared.
 pub(crate) fn put_woken(out: &mut TextWriter<'_>, end: &[u8], anchor: ReadAnchor)
-    requires { Room out.old (length end.now + 89) }
-    ensures { Puts out.old out.new (length end.now + 89) (end.now ++ (anchor_text Page.Sheet anchor ++ ascii ")\n")) }
+    requires { Room out.old (length end.now + 91) }
+    ensures { Puts out.old out.new (length end.now + 91) (end.now ++ (anchor_text anchor ++ ascii ")\n")) }
 {
     out.text(end);
-    put_anchor(out, Page::Sheet, anchor);
+    put_anchor(out, anchor);
     out.text(b")\n");
 }
 
 // Puts the line of waiter n. A free one has none.
 pub(crate) fn put_waiter(out: &mut TextWriter<'_>, n: u64, waiter: Waiter)
-    requires { Room out.old 126 }
-    ensures { Puts out.old out.new 126 (waiter_line n waiter) }
+    requires { Room out.old 128 }
+    ensures { Puts out.old out.new 128 (waiter_line n waiter) }
 {
     match waiter {
         Waiter::Free => {}
@@ -61,8 +59,8 @@ pub(crate) fn put_waiter(out: &mut TextWriter<'_>, n: u64, waiter: Waiter)
 // Puts the lines of the waiters that are not free, ascending.
 #[tactic(auto, using(text_put::proofs::Writers::wrote_both, text_put::proofs::Writers::wrote_nothing, crate::proofs::Rows::waiters_all, crate::proofs::Rows::waiters_more), unfolding(sheet_lines::specs::Lines::waiter_lines))]
 pub fn put_waiters(out: &mut TextWriter<'_>, slots: [WaiterSlot; 16])
-    requires { Room out.old 2016 }
-    ensures { Puts out.old out.new 2016 (waiter_lines 0 slots) }
+    requires { Room out.old 2048 }
+    ensures { Puts out.old out.new 2048 (waiter_lines 0 slots) }
 {
     for (i, slot) in slots.iter().enumerate() {
         put_waiter(out, i as u64, slot.waiter);

@@ -5,9 +5,11 @@ use native.Mathlib.Omega.{arith}
 use native.Mathlib.Decide.{dec_lt}
 use mathlib.Core.Logic.{by_cases}
 use mathlib.Core.Path.{◌≡◌, refl, ap, sym, ◌∙◌}
+use mathlib.Core.Bool.{Bool, false}
 use mathlib.Core.List.{List, [], ◌∷◌}
 use lib.ListN.{length}
 use borrow.Author.Tests.{lt-ltb, le-ltb, le-leb}
+use Rattle.std.specs.List.{list_any}
 use Rattle.std.specs.Prelude.{Option, Some, None}
 use Rattle.text.specs.Words.{run}
 use Rattle.text.specs.Decimals.{decimal, decimal_on, digit, more, number}
@@ -84,3 +86,18 @@ run-decimal_on (suc k) n s p =
 pub run-decimal : (n : ℕ) → run (decimal n) ≡ length (decimal n)
 unfolding decimal run
 run-decimal n = run-decimal_on 20 n [] refl
+
+-- ---- a test that no digit passes is passed by no byte of a decimal
+
+module _ (test : ℕ → Bool) (digits : (d : ℕ) → d < 10 → test (48 + d) ≡ false) where
+  decimal_on_none : (k n : ℕ) (s : List ℕ) → list_any test s ≡ false → list_any test (decimal_on k n s) ≡ false
+  unfolding decimal_on
+  decimal_on_none zero n s e = e
+  decimal_on_none (suc k) n s e =
+      by_cases (dec_lt n 10)
+      (λ h. rw (lt-ltb n 10 h, digits n h) e)
+      (λ h. rw (le-ltb n 10 (omega arith)) (decimal_on_none k (n / 10) ((48 + n % 10) ∷ s) (rw (digits (n % 10) (omega arith)) e)))
+
+  pub decimal_none : (n : ℕ) → list_any test (decimal n) ≡ false
+  unfolding decimal
+  decimal_none n = decimal_on_none 20 n [] refl

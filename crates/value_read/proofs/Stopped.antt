@@ -1,14 +1,12 @@
 -- Where reading has stopped, nothing is read.
 use Prim.Native.Nat.{ℕ}
 use mathlib.Core.Path.{◌≡◌, refl}
-use mathlib.Core.List.{List, [], ◌∷◌}
-use Rattle.hash_text.specs.Hex.{hex_hash}
-use Rattle.hash_text.specs.LineHashes.{line_hash}
-use Rattle.hash_text.specs.SheetHashes.{sheet_hash}
+use mathlib.Core.List.{[], ◌∷◌}
+use Rattle.hash_text.proofs.Back.{no_line_word, no_sheet_word}
 use Rattle.text.specs.Decimals.{number}
 use Rattle.text.specs.Rests.{stopped, after_byte, after, word_here, says, number_got, read_number}
 use Rattle.text.specs.Same.{same_text}
-use Rattle.value_text.specs.Reads.{or_word, map, hash_said, block_hash_got, read_block_hash, read_anchor, read_slot, spaced_number, read_failure, read_skip}
+use Rattle.value_text.specs.Reads.{or_word, map, hash_got, hash_said, read_hash, read_block_hash, read_anchor, read_slot, spaced_number, read_failure, read_skip}
 use Rattle.value_text.specs.Words.{word_text}
 use Rattle.value_text.specs.declared.page.Page.{Page}
 
@@ -24,15 +22,14 @@ pub spaced_number_stopped : (spaced_number stopped).next ≡ stopped
 unfolding spaced_number after after_byte
 spaced_number_stopped = number_stopped
 
--- the same digits are read on both pages
-pub pages_alike : (w : List ℕ) → line_hash w ≡ sheet_hash w
-unfolding line_hash sheet_hash
-pages_alike w = refl
+pub hash_stopped : (p : Page) → (read_hash p stopped).next ≡ stopped
+unfolding read_hash hash_got hash_said word_here
+hash_stopped Page.Line = rw no_line_word refl
+hash_stopped Page.Sheet = rw no_sheet_word refl
 
 pub block_hash_stopped : (p : Page) → (read_block_hash p stopped).next ≡ stopped
-unfolding read_block_hash or_word word_text says same_text hash_said block_hash_got word_here line_hash sheet_hash hex_hash
-block_hash_stopped Page.Line = refl
-block_hash_stopped Page.Sheet = refl
+unfolding read_block_hash or_word map word_text says same_text word_here
+block_hash_stopped p = hash_stopped p
 
 pub anchor_stopped : (p : Page) → (read_anchor p stopped).next ≡ stopped
 unfolding read_anchor after after_byte read_number number_got word_here number

@@ -1,27 +1,36 @@
-// Hashes and anchors. Only the text of a hash depends on where it stands.
+// Hashes and anchors. Only what a word says as a hash depends on where it stands.
 ghost use Rattle.std.specs.Prelude.{◌≡◌};
 ghost use Rattle.line_reader.specs.Reads.{rest, Reads};
-ghost use Rattle.value_text.specs.Reads.{hash_said, read_anchor, read_block_hash, read_slot};
+ghost use Rattle.value_text.specs.Reads.{hash_said, read_anchor, read_block_hash, read_hash, read_slot};
 
 use hash::Hash;
-use hash_read::read_hash;
+use hash_read::{line_hash, sheet_hash};
 use head_values::ReadAnchor;
 use line_reader::LineReader;
 use text_decimal::take_decimal;
 use value_text::page::Page;
 
-// The hash that a word says. Both pages have it alike; the two cases say which is meant.
-#[tactic(auto, using(crate::proofs::Stopped::pages_alike), unfolding(value_text::specs::Reads::hash_said))]
-pub fn hash_said(page: Page, word: &[u8]) -> Option<Hash>
+// The hash that a word says.
+#[tactic(auto, unfolding(value_text::specs::Reads::hash_said))]
+pub(crate) fn hash_said(page: Page, word: &[u8]) -> Option<Hash>
     ensures { result ≡ hash_said page word.now }
 {
     match page {
-        Page::Line | Page::Sheet => read_hash(word),
+        Page::Line => line_hash(word),
+        Page::Sheet => sheet_hash(word),
     }
 }
 
+// HASH, which is never `none`: a parent hash.
+#[tactic(auto, unfolding(value_text::specs::Reads::read_hash, value_text::specs::Reads::hash_got))]
+pub fn take_hash(r: &mut LineReader<'_>, page: Page) -> Option<Hash>
+    ensures { Reads r.old r.new result (read_hash page (rest r.old)) }
+{
+    hash_said(page, r.take_word())
+}
+
 // HASH or `none`. The word is looked for once: it is a keyword or a hash.
-#[tactic(auto, using(crate::proofs::Keywords::same_bytes, crate::proofs::Keywords::other_length, crate::proofs::Keywords::other_byte), unfolding(value_text::specs::Reads::read_block_hash, value_text::specs::Reads::or_word, value_text::specs::Reads::block_hash_got, text::specs::Rests::says, value_text::specs::Words::word_text))]
+#[tactic(auto, using(crate::proofs::Keywords::same_bytes, crate::proofs::Keywords::other_length, crate::proofs::Keywords::other_byte), unfolding(value_text::specs::Reads::read_block_hash, value_text::specs::Reads::or_word, value_text::specs::Reads::map, value_text::specs::Reads::read_hash, value_text::specs::Reads::hash_got, text::specs::Rests::says, value_text::specs::Words::word_text))]
 pub(crate) fn take_block_hash(r: &mut LineReader<'_>, page: Page) -> Option<Option<Hash>>
     ensures { Reads r.old r.new result (read_block_hash page (rest r.old)) }
 {

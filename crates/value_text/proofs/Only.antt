@@ -1,5 +1,4 @@
--- Nothing else is read: where reading goes on after a value, that value's own text stood there. So a value has one text on a line, and
--- one on a sheet.
+-- Nothing else is read: where reading goes on after a value, that value's own text stood there, on a line but for the case of hash digits.
 use Prim.Native.Nat.{ℕ, suc, ◌≤◌}
 use native.Mathlib.Omega.{arith}
 use mathlib.Core.Path.{◌≡◌, refl, sym, ap, ◌∙◌}
@@ -10,17 +9,19 @@ use lib.Dec.{eqb, leb}
 use borrow.Author.Tests.{eqb-true}
 use Rattle.std.specs.Prelude.{Option, Some, None, cond}
 use Rattle.hash.specs.declared.Hash.{Hash}
-use Rattle.head_values.specs.Values.{anchor_value, block_hash_value, skip_value, slot_value}
+use Rattle.head_values.specs.Values.{block_hash_value, skip_value, slot_value}
 use Rattle.text.specs.Ascii.{ascii}
 use Rattle.text.specs.Words.{in_word, run, word}
 use Rattle.text.specs.Decimals.{decimal, number}
 use Rattle.text.specs.Rests.{Rest, at, stopped, Took, after_byte, after, word_here, says, past, past_word, number_got, read_number}
 use Rattle.text.proofs.Only.{number_only}
 use Rattle.text.proofs.Same.{same_eq}
-use Rattle.hash_text.proofs.Only.{line_hash_only, sheet_hash_only}
-use Rattle.value_text.specs.Reads.{or_word, map, then, hash_said, block_hash_got, read_block_hash, read_anchor, read_slot, spaced_number, read_failure, read_skip}
+use Rattle.hash_text.specs.Texts.{hash_text}
+use Rattle.value_text.specs.Reads.{or_word, map, then, hash_got, hash_said, read_hash, read_block_hash, read_anchor, read_slot, spaced_number, read_failure, read_skip}
 use Rattle.value_text.specs.Texts.{block_hash_text, anchor_text, slot_text, skip_text}
-use Rattle.value_text.specs.Values.{hash_text, value_text}
+use Rattle.value_text.proofs.Back.{anchor_then}
+use Rattle.value_text.proofs.Stands.{Stands, exactly, stands, stood, word_stood}
+use Rattle.value_text.specs.Values.{value_text}
 use Rattle.value_text.specs.Words.{word_text}
 use Rattle.value_text.specs.declared.page.Page.{Page}
 
@@ -91,40 +92,62 @@ module _ {A : Type 0} (text : A → List ℕ) (r : Rest) (t : List ℕ) where
   chosen_only true x y f g = f refl
   chosen_only false x y f g = g
 
--- ---- anchors
+-- ---- what holds on both pages
 
-said_only : (p : Page) (w : List ℕ) (h : Hash) → hash_said p w ≡ Some h → w ≡ hash_text p h
-unfolding hash_said hash_text
-said_only Page.Line w h e = (line_hash_only w h e).0
-said_only Page.Sheet w h e = (sheet_hash_only w h e).0
+module _ (p : Page) where
+  pub after_stood : (k : List ℕ) {r : Rest} {t : List ℕ} → Stands p (after k r) t → Stands p r (k ++ t)
+  after_stood k {r} s = stood p k (after_only k r) s
 
-got_only : (p : Page) (r : Rest) (t : List ℕ) (m : Option Hash) → hash_said p (word_here r) ≡ m
-    → (block_hash_got m (past_word r)).next ≡ at t
-    → r ≡ at (block_hash_text p (block_hash_got m (past_word r)).value ++ t)
-unfolding block_hash_got block_hash_text value_text block_hash_value
-got_only p r t (Some h) f g = rw (said_only p (word_here r) h f) at (past_only r t g)
-got_only p r t None f g = cc
+  pub number_stood : {r : Rest} {t : List ℕ} → Stands p (read_number r).next t → Stands p r (decimal (read_number r).value ++ t)
+  number_stood {r} s = stood p (decimal (read_number r).value) (number_read r) s
 
-pub block_hash_read : (p : Page) (r : Rest) (t : List ℕ) → (read_block_hash p r).next ≡ at t
-    → r ≡ at (block_hash_text p (read_block_hash p r).value ++ t)
-unfolding read_block_hash or_word block_hash_text value_text word_text block_hash_value
-block_hash_read p r t =
-    chosen_only (block_hash_text p) r t (says (ascii "none") r) _ _
-    (λ f g. says_only (ascii "none") r t f g)
-    (got_only p r t (hash_said p (word_here r)) refl)
+  pub hash_stood : {r : Rest} {t : List ℕ} → Stands p (read_hash p r).next t → Stands p r (hash_text (read_hash p r).value ++ t)
+  unfolding read_hash hash_got
+  hash_stood {r} {t} s = go (hash_said p (word_here r)) refl s
+    where
+      go : (m : Option Hash) → hash_said p (word_here r) ≡ m → Stands p (hash_got m (past_word r)).next t → Stands p r (hash_text (hash_got m (past_word r)).value ++ t)
+      go (Some h) f k = word_stood p (word_here r) h f (past_only r) k
+      go None f k = cc k.is
 
-pub anchor_read : (p : Page) (r : Rest) (t : List ℕ) → (read_anchor p r).next ≡ at t → r ≡ at (anchor_text p (read_anchor p r).value ++ t)
-unfolding read_anchor anchor_text value_text anchor_value block_hash_text
-anchor_read p r t e =
-    after_only (ascii "(") r _ (number_read _ _ (after_only (ascii " ") _ _ (block_hash_read p _ _ (after_only (ascii ")") _ t e))))
-    ∙ simp append_assoc
+  module _ {A : Type 0} (text : A → List ℕ) {r : Rest} {t : List ℕ} where
+    -- a choice by a keyword
+    chosen_stood : (b : Bool) (x y : Took A)
+        → (b ≡ true → Stands p x.next t → Stands p r (text x.value ++ t))
+        → (Stands p y.next t → Stands p r (text y.value ++ t))
+        → Stands p (cond b x y).next t → Stands p r (text (cond b x y).value ++ t)
+    chosen_stood true x y f g = f refl
+    chosen_stood false x y f g = g
 
-pub slot_read : (p : Page) (r : Rest) (t : List ℕ) → (read_slot p r).next ≡ at t → r ≡ at (slot_text p (read_slot p r).value ++ t)
-unfolding read_slot or_word map slot_text value_text word_text slot_value anchor_text
-slot_read p r t =
-    chosen_only (slot_text p) r t (says (ascii "none") r) _ _
-    (λ f g. says_only (ascii "none") r t f g)
-    (anchor_read p r t)
+  pub block_hash_stood : {r : Rest} {t : List ℕ} → Stands p (read_block_hash p r).next t → Stands p r (block_hash_text (read_block_hash p r).value ++ t)
+  unfolding read_block_hash or_word map block_hash_text value_text word_text block_hash_value
+  block_hash_stood {r} =
+      chosen_stood block_hash_text (says (ascii "none") r) _ _
+      (λ f s. stood p (ascii "none") (λ u e. says_only (ascii "none") r u f e) s)
+      hash_stood
+
+  pub anchor_stood : {r : Rest} {t : List ℕ} → Stands p (read_anchor p r).next t → Stands p r (anchor_text (read_anchor p r).value ++ t)
+  unfolding read_anchor
+  anchor_stood {r} {t} s =
+      rw (anchor_then (read_anchor p r).value t)
+      (after_stood (ascii "(") (number_stood (after_stood (ascii " ") (block_hash_stood (after_stood (ascii ")") s)))))
+
+  pub slot_stood : {r : Rest} {t : List ℕ} → Stands p (read_slot p r).next t → Stands p r (slot_text (read_slot p r).value ++ t)
+  unfolding read_slot or_word map slot_text value_text word_text slot_value anchor_text
+  slot_stood {r} =
+      chosen_stood slot_text (says (ascii "none") r) _ _
+      (λ f s. stood p (ascii "none") (λ u e. says_only (ascii "none") r u f e) s)
+      anchor_stood
+
+-- ---- on a sheet, byte for byte
+
+pub sheet_hash_read : (r : Rest) (t : List ℕ) → (read_hash Page.Sheet r).next ≡ at t → r ≡ at (hash_text (read_hash Page.Sheet r).value ++ t)
+sheet_hash_read r t e = exactly (hash_stood Page.Sheet (stands Page.Sheet e))
+
+pub sheet_anchor_read : (r : Rest) (t : List ℕ) → (read_anchor Page.Sheet r).next ≡ at t → r ≡ at (anchor_text (read_anchor Page.Sheet r).value ++ t)
+sheet_anchor_read r t e = exactly (anchor_stood Page.Sheet (stands Page.Sheet e))
+
+pub sheet_slot_read : (r : Rest) (t : List ℕ) → (read_slot Page.Sheet r).next ≡ at t → r ≡ at (slot_text (read_slot Page.Sheet r).value ++ t)
+sheet_slot_read r t e = exactly (slot_stood Page.Sheet (stands Page.Sheet e))
 
 -- ---- skips
 
@@ -154,3 +177,6 @@ skip_read r t =
     (chosen_only skip_text r t (says (ascii "no-hash") r) _ _
     (λ f g. says_only (ascii "no-hash") r t f g)
     (failure_read r t))
+
+pub skip_stood : (p : Page) {r : Rest} {t : List ℕ} → Stands p (read_skip r).next t → Stands p r (skip_text (read_skip r).value ++ t)
+skip_stood p {r} s = stood p (skip_text (read_skip r).value) (skip_read r) s

@@ -1,5 +1,6 @@
 -- What is read is below 2^64, whatever the text.
 use Prim.Native.Nat.{ℕ}
+use native.Mathlib.Omega.{arith}
 use mathlib.Core.Path.{◌≡◌, refl}
 use mathlib.Core.Bool.{Bool, true, false}
 use mathlib.Core.List.{List}
@@ -13,7 +14,7 @@ use Rattle.head_values.specs.declared.ReadAnchor.{ReadAnchor}
 use Rattle.text.specs.Ascii.{ascii}
 use Rattle.text.specs.Rests.{Rest, Took, word_here, says, past_word}
 use Rattle.text.proofs.Only.{number_range}
-use Rattle.value_text.specs.Reads.{or_word, map, then, hash_said, block_hash_got, read_block_hash, read_anchor, read_slot, spaced_number, read_failure, read_skip}
+use Rattle.value_text.specs.Reads.{or_word, map, then, hash_got, hash_said, read_hash, read_block_hash, read_anchor, read_slot, spaced_number, read_failure, read_skip}
 use Rattle.value_text.specs.Words.{word_text}
 use Rattle.value_text.specs.declared.page.Page.{Page}
 
@@ -22,23 +23,25 @@ pub chosen : {A : Type 0} (P : A → Type 0) (b : Bool) (x y : A) → P x → P 
 chosen P true x y p q = p
 chosen P false x y p q = q
 
--- ---- anchors
+-- ---- hashes and anchors
 
 said_range : (p : Page) (w : List ℕ) (h : Hash) → hash_said p w ≡ Some h → HashFits h
 unfolding hash_said
 said_range Page.Line w h e = (line_hash_only w h e).1
 said_range Page.Sheet w h e = (sheet_hash_only w h e).1
 
-got_range : (m : Option Hash) (r : Rest) → ((h : Hash) → m ≡ Some h → HashFits h) → BlockHashFits (block_hash_got m r).value
-unfolding block_hash_got
+got_range : (m : Option Hash) (r : Rest) → ((h : Hash) → m ≡ Some h → HashFits h) → HashFits (hash_got m r).value
+unfolding hash_got
 got_range (Some h) r f = f h refl
-got_range None r f = tt
+got_range None r f = record { w0 = omega arith; w1 = omega arith; w2 = omega arith; w3 = omega arith }
+
+pub hash_range : (p : Page) (r : Rest) → HashFits (read_hash p r).value
+unfolding read_hash
+hash_range p r = got_range (hash_said p (word_here r)) (past_word r) (λ h e. said_range p (word_here r) h e)
 
 pub block_hash_range : (p : Page) (r : Rest) → BlockHashFits (read_block_hash p r).value
-unfolding read_block_hash or_word word_text
-block_hash_range p r =
-    chosen (λ (k : Took (Option Hash)). BlockHashFits k.value) (says (ascii "none") r) _ _ tt
-    (got_range (hash_said p (word_here r)) (past_word r) (λ h e. said_range p (word_here r) h e))
+unfolding read_block_hash or_word map word_text
+block_hash_range p r = chosen (λ (k : Took (Option Hash)). BlockHashFits k.value) (says (ascii "none") r) _ _ tt (hash_range p r)
 
 pub anchor_range : (p : Page) (r : Rest) → AnchorFits (read_anchor p r).value
 unfolding read_anchor

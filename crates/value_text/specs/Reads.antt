@@ -1,5 +1,5 @@
--- Document 01, "Lines" and "The sheet": an anchor A is `(NUMBER HASH)` or `(NUMBER none)`; a skip X is `none`, `no-hash`, `(rpc N)` or `(decode N)`; single
--- spaces. Read from the front of a text, with a failure that stays.
+-- Document 01, "Lines" and "The sheet": an anchor A is `(NUMBER HASH)` or `(NUMBER none)`; a skip X is `none`, `no-hash`, `(rpc N)` or
+-- `(decode N)`; single spaces. Which words are hashes document 02, Job 3, says. Read from the front of a text, with a failure that stays.
 use Rattle.std.specs.Prelude.{ℕ, List, Option, Some, None, cond}
 use Rattle.hash.specs.declared.Hash.{Hash}
 use Rattle.hash_text.specs.LineHashes.{line_hash}
@@ -28,21 +28,26 @@ map f t = got (f t.value) t.next
 unfoldable pub then : {A : Type 0} → List ℕ → Took A → Took A
 then k t = got t.value (after k t.next)
 
--- ---- anchors
+-- ---- hashes
 
 -- the hash that a word says, on a line and on a sheet
 unfoldable pub hash_said : Page → List ℕ → Option Hash
 hash_said Page.Line w = line_hash w
 hash_said Page.Sheet w = sheet_hash w
 
--- that hash, and the rest after the word
-unfoldable pub block_hash_got : Option Hash → Rest → Took (Option Hash)
-block_hash_got (Some h) next = got (Some h) next
-block_hash_got None next = got None stopped
+unfoldable pub hash_got : Option Hash → Rest → Took Hash
+hash_got (Some h) next = got h next
+hash_got None next = got (record { w0 = 0; w1 = 0; w2 = 0; w3 = 0 }) stopped
+
+-- HASH, one word
+unfoldable pub read_hash : Page → Rest → Took Hash
+read_hash p r = hash_got (hash_said p (word_here r)) (past_word r)
+
+-- ---- anchors
 
 -- HASH or `none`
 unfoldable pub read_block_hash : Page → Rest → Took (Option Hash)
-read_block_hash p r = or_word (word_text Word.none) None r (block_hash_got (hash_said p (word_here r)) (past_word r))
+read_block_hash p r = or_word (word_text Word.none) None r (map Some (read_hash p r))
 
 -- `(NUMBER HASH)` or `(NUMBER none)`
 unfoldable pub read_anchor : Page → Rest → Took ReadAnchor

@@ -6,23 +6,21 @@ use Rattle.head_values.specs.declared.BalSkip.{BalSkip}
 use Rattle.head_values.specs.declared.Link.{Link}
 use Rattle.head_values.specs.declared.ReadAnchor.{ReadAnchor}
 use Rattle.value_text.specs.Values.{value_text}
-use Rattle.value_text.specs.declared.page.Page.{Page}
 
-unfoldable pub block_hash_text : Page → Option Hash → List ℕ
-block_hash_text p h = value_text p (block_hash_value h)
+unfoldable pub block_hash_text : Option Hash → List ℕ
+block_hash_text h = value_text (block_hash_value h)
 
-unfoldable pub anchor_text : Page → ReadAnchor → List ℕ
-anchor_text p a = value_text p (anchor_value a)
+unfoldable pub anchor_text : ReadAnchor → List ℕ
+anchor_text a = value_text (anchor_value a)
 
-unfoldable pub slot_text : Page → Option ReadAnchor → List ℕ
-slot_text p s = value_text p (slot_value s)
+unfoldable pub slot_text : Option ReadAnchor → List ℕ
+slot_text s = value_text (slot_value s)
 
--- a skip and a link hold no hash: they are the same on a line and on a sheet
 unfoldable pub skip_text : BalSkip → List ℕ
-skip_text skip = value_text Page.Line (skip_value skip)
+skip_text skip = value_text (skip_value skip)
 
 unfoldable pub link_text : Link → List ℕ
-link_text link = value_text Page.Line (link_value link)
+link_text link = value_text (link_value link)
 
 unfoldable pub fault_text : Link → List ℕ
-fault_text link = value_text Page.Line (fault_value link)
+fault_text link = value_text (fault_value link)

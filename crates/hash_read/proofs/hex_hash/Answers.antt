@@ -1,6 +1,6 @@
 -- All values are those of digits, so each part of sixteen is below 2^64.
 use Rattle.hash_read.proofs.Values.{part_below}
-use Rattle.hash_read.proofs.read_hash.Goals as goal
+use Rattle.hash_read.proofs.hex_hash.Goals as goal
 
 pub number-w0-requires : goal.number-w0-requires
 number-w0-requires c = search (part_below, c.put_values.ensures.values_after, c.put_values.ensures.value, c.if-put_values-gt15.false)
