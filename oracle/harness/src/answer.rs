@@ -219,3 +219,22 @@ const fn completion_word(end: Option<HeadCompletion>) -> &'static [u8] {
         Some(HeadCompletion::Abandoned) => b"abandoned",
     }
 }
+
+#[cfg(test)]
+mod tests {
+    use super::*;
+    use alloy::primitives::B256;
+
+    #[test]
+    fn the_longest_answer_has_277_bytes_and_a_line_feed() {
+        let anchor = ReadAnchor {
+            number: u64::MAX,
+            hash: Some(B256([0xab; 32])),
+        };
+        let mut line = Vec::new();
+        Answer::Heads([Some(anchor); 3]).write(&mut line);
+        assert_eq!(line.len(), 277 + 1);
+        let written = format!("(18446744073709551615 0x{})", "ab".repeat(32));
+        assert!(line.ends_with(format!(" {written})\n").as_bytes()));
+    }
+}

@@ -1,6 +1,8 @@
 //! Document 01's thirteen calls: their lines read and written.
 
-use crate::text::{put_anchor, put_hash, put_number, put_optional_anchor, put_skip, Skip};
+use crate::text::{
+    put_anchor, put_hash, put_number, put_optional_anchor, put_skip, Skip, HEX_PREFIX,
+};
 use alloy::primitives::B256;
 use degenbot_simulation::sim::storage_memo::ReadAnchor;
 
@@ -74,7 +76,7 @@ impl Call {
         reader.rest.is_empty().then_some(call)
     }
 
-    /// Write the call's line, without a line feed.
+    /// Write the call's line, without a line feed. Its hashes are lowercase.
     pub fn write(&self, out: &mut Vec<u8>) {
         let mut writer = Writer { out };
         match *self {
@@ -267,8 +269,9 @@ impl Reader<'_> {
         self.hex()
     }
 
-    /// 64 lowercase hex digits.
+    /// `0x` and 64 hex digits of either case.
     fn hex(&mut self) -> Option<B256> {
+        self.text(HEX_PREFIX)?;
         let (digits, rest) = self.rest.split_at_checked(64)?;
         let mut hash = B256::default();
         for (byte, pair) in hash.0.iter_mut().zip(digits.chunks_exact(2)) {
@@ -322,6 +325,120 @@ fn hex_value(digit: u8) -> Option<u8> {
     match digit {
         b'0'..=b'9' => Some(digit - b'0'),
         b'a'..=b'f' => Some(digit - b'a' + 10),
+        b'A'..=b'F' => Some(digit - b'A' + 10),
         _ => None,
+    }
+}
+
+#[cfg(test)]
+mod tests {
+    use super::*;
+
+    const LOWERCASE: &str = "00112233445566778899aabbccddeeff0123456789abcdefabcdefabcdefabcd";
+
+    /// The hash that a line has as its parent hash.
+    fn read(hash: &str) -> Option<B256> {
+        let line = format!("(deliver (7 none) {hash} 50)");
+        match Call::read(line.as_bytes()) {
+            Some(Call::Deliver { parent_hash, .. }) => Some(parent_hash),
+            _ => None,
+        }
+    }
+
+    #[test]
+    fn a_hash_is_0x_and_64_digits_of_either_case() {
+        let capital = LOWERCASE.to_ascii_uppercase();
+        let (one, other) = (&LOWERCASE[..32], &capital[32..]);
+        let hash = read(&format!("0x{LOWERCASE}"));
+        assert!(hash.is_some_and(|hash| hash.0[10..12] == [0xaa, 0xbb]));
+        assert_eq!(read(&format!("0x{capital}")), hash);
+        assert_eq!(read(&format!("0x{one}{other}")), hash);
+    }
+
+    #[test]
+    fn nothing_else_is_a_hash() {
+        for digits in [LOWERCASE, &LOWERCASE.to_ascii_uppercase()] {
+            for none in [
+                digits.to_owned(),
+                format!("0X{digits}"),
+                format!("x{digits}"),
+                format!("00{digits}"),
+                format!("0x0x{digits}"),
+                format!("0x{}", &digits[1..]),
+                format!("0x0{digits}"),
+                format!("0x{}", &digits[2..]),
+                "0x".to_owned(),
+                "none".to_owned(),
+                String::new(),
+            ] {
+                assert_eq!(read(&none), None, "{none}");
+            }
+        }
+    }
+
+    #[test]
+    fn each_byte_is_a_digit_or_none() {
+        for byte in 0..=u8::MAX {
+            let mut line = format!("(completion (7 0x{LOWERCASE}))").into_bytes();
+            let last = line.len() - 3;
+            line[last] = byte;
+            let expected = char::from(byte).to_digit(16);
+            let anchor = match Call::read(&line) {
+                Some(Call::Completion { anchor }) => anchor.hash,
+                _ => None,
+            };
+            let digit = anchor.map(|hash| u32::from(hash.0[31] & 15));
+            assert_eq!(digit, expected, "{byte}");
+        }
+    }
+
+    #[test]
+    fn a_call_is_written_in_lowercase() {
+        let capital = LOWERCASE.to_ascii_uppercase();
+        let line = format!("(link (7 0x{capital}) (8 none) 0x{capital})");
+        let mut written = Vec::new();
+        let call = Call::read(line.as_bytes()).expect("the line is a call");
+        call.write(&mut written);
+        let expected = format!("(link (7 0x{LOWERCASE}) (8 none) 0x{LOWERCASE})");
+        assert_eq!(written, expected.as_bytes());
+    }
+
+    #[test]
+    fn no_other_word_may_have_a_capital() {
+        for line in [
+            "(Stats)",
+            "(STATS)",
+            "(completion (7 None))",
+            "(completion (7 NONE))",
+            "(link None (7 none) 0x$)",
+            "(apply (7 none) 1 (7 none) No-hash 60 0 90)",
+            "(apply (7 0x$) 1 (7 0x$) (Rpc 1) 60 0 90)",
+            "(apply (7 0x$) 1 (7 0x$) (decodE 1) 60 0 90)",
+        ] {
+            let line = line.replace('$', LOWERCASE);
+            assert_eq!(Call::read(line.as_bytes()), None, "{line}");
+            let lowercase = line.to_ascii_lowercase();
+            assert!(Call::read(lowercase.as_bytes()).is_some(), "{lowercase}");
+        }
+    }
+
+    #[test]
+    fn the_longest_call_has_301_bytes() {
+        let anchor = ReadAnchor {
+            number: u64::MAX,
+            hash: Some(B256::default()),
+        };
+        let longest = Call::Apply(Apply {
+            anchor,
+            seq: u64::MAX,
+            list: anchor,
+            skip: Skip::Decode(u64::MAX),
+            handle: u64::MAX,
+            carried: u64::MAX,
+            report: u64::MAX,
+        });
+        let mut line = Vec::new();
+        longest.write(&mut line);
+        assert_eq!(line.len(), 301);
     }
 }

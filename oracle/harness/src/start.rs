@@ -103,7 +103,7 @@ mod tests {
         let mut oracle = Oracle::new(start.into());
         for call in CALLS {
             let (seq, _) = oracle.sequence();
-            let call = call.replace('$', &"1".repeat(64));
+            let call = call.replace('$', &format!("0x{}", "1".repeat(64)));
             oracle.answer_line(call.replace("SEQ", &seq.to_string()).as_bytes());
         }
         counters(&mut oracle)

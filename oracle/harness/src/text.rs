@@ -6,6 +6,9 @@ use degenbot_simulation::sim::evm2::read_hub::CarryRefusal;
 use degenbot_simulation::sim::storage_memo::ReadAnchor;
 use std::io::Write;
 
+/// What stands before the digits of a hash.
+pub(crate) const HEX_PREFIX: &[u8] = b"0x";
+
 const HEX_DIGITS: &[u8; 16] = b"0123456789abcdef";
 
 /// Document 01's skip: a [`BalSkip`] or none, with a number for the error text.
@@ -42,7 +45,9 @@ pub(crate) fn put_number(out: &mut Vec<u8>, number: u64) {
     write!(out, "{number}").expect("a Vec takes every write");
 }
 
+/// `0x` and 64 lowercase digits.
 pub(crate) fn put_hash(out: &mut Vec<u8>, hash: B256) {
+    out.extend_from_slice(HEX_PREFIX);
     for byte in hash.0 {
         out.push(HEX_DIGITS[usize::from(byte >> 4)]);
         out.push(HEX_DIGITS[usize::from(byte & 15)]);

@@ -1,7 +1,7 @@
 //! A driver that answers lines.
 
 use crate::fault::Fault;
-use crate::read::{Bad, Reader};
+use crate::read::{Bad, Place, Reader};
 use crate::rebuild::NotTaken;
 use crate::state::{Answer, Model};
 use crate::write::Lines;
@@ -18,7 +18,7 @@ impl Driver {
     pub fn new(count: [u64; 9], fault: Option<Fault>) -> Self {
         Self {
             model: Model::new(count, fault),
-            reader: Reader { fault },
+            reader: line_reader(fault),
         }
     }
 
@@ -30,7 +30,7 @@ impl Driver {
     pub fn from_sheet(bytes: &[u8], fault: Option<Fault>) -> Result<Self, NotTaken> {
         Ok(Self {
             model: Model::from_sheet(bytes, fault)?,
-            reader: Reader { fault },
+            reader: line_reader(fault),
         })
     }
 
@@ -79,6 +79,36 @@ impl Driver {
             Err(Bad::WaiterNumber) if self.model.has(Fault::OverflowIsThree) => Answer::Refused(3),
             Err(Bad::Line | Bad::WaiterNumber) => Answer::Refused(1),
         };
-        write!(output, "{}", Lines(&self.model, &answer))
+        let lines = Lines(&self.model, &answer).to_string();
+        output.write_all(&self.spoilt(&answer, lines).into_bytes())
     }
+
+    /// The answer as it is, but for the faults in how hashes are written.
+    fn spoilt(&self, answer: &Answer, lines: String) -> String {
+        let on_sheet = matches!(answer, Answer::Sheet);
+        match self.model.fault {
+            Some(Fault::CaseCompared) => lines.to_ascii_lowercase(),
+            Some(Fault::BareWritten) => lines.replace("0x", ""),
+            Some(Fault::CapitalXWritten) => lines.replace("0x", "0X"),
+            Some(Fault::SheetWrittenBare) if on_sheet => lines.replace("0x", ""),
+            Some(Fault::SheetWrittenInCapitals) if on_sheet => in_capitals(&lines),
+            _ => lines,
+        }
+    }
+}
+
+const fn line_reader(fault: Option<Fault>) -> Reader {
+    let place = Place::Line;
+    Reader { fault, place }
+}
+
+/// The text with the digits of its hashes in capitals.
+fn in_capitals(text: &str) -> String {
+    let mut parts = text.split("0x");
+    let mut capital = parts.next().unwrap_or_default().to_owned();
+    for part in parts {
+        let (digits, rest) = part.split_at(64);
+        capital += &format!("0x{}{rest}", digits.to_ascii_uppercase());
+    }
+    capital
 }

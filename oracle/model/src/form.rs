@@ -35,7 +35,7 @@ impl Reader {
     /// A line of a sheet, its line feed with.
     fn sheet_line<'a>(&self, line: &'a [u8]) -> Option<Line<'a>> {
         let text = match line.strip_suffix(b"\n") {
-            None if self.fault == Some(Fault::LastFeedMissing) => line,
+            None if self.has(Fault::LastFeedMissing) => line,
             text => text?,
         };
         let mut forms = self.bracketed(text)?;
@@ -142,7 +142,7 @@ impl Reader {
             b"not-consecutive" => Some(Link::NotConsecutive),
             b"hash-unknown" => Some(Link::HashUnknown),
             b"hash-mismatch" => Some(Link::HashMismatch),
-            b"linked" if self.fault == Some(Fault::LinkedInCold) => Some(Link::Linked),
+            b"linked" if self.has(Fault::LinkedInCold) => Some(Link::Linked),
             _ => None,
         }
     }
@@ -153,16 +153,16 @@ impl Reader {
         let mut next = 0;
         for line in lines {
             let Some((number, waiter)) = self.waiter(line) else {
-                return (self.fault == Some(Fault::TrailingTaken)).then_some(waiters);
+                return (self.has(Fault::TrailingTaken)).then_some(waiters);
             };
-            let again = number + 1 == next && self.fault == Some(Fault::WaiterTwice);
-            if number < next && !again && self.fault != Some(Fault::AnyWaiterOrder) {
+            let again = number + 1 == next && self.has(Fault::WaiterTwice);
+            if number < next && !again && !self.has(Fault::AnyWaiterOrder) {
                 return None;
             }
             next = number + 1;
             match waiters.get_mut(number) {
                 Some(free) => *free = waiter,
-                None if number == 16 && self.fault == Some(Fault::SixteenTaken) => {}
+                None if number == 16 && self.has(Fault::SixteenTaken) => {}
                 None => return None,
             }
         }

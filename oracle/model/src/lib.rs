@@ -1,9 +1,10 @@
-//! Document 01's driver with Job 1's settle numbers and Job 2's way back from a sheet, written a
-//! second time, without any code of the harness. One fault can be planted in it.
+//! Document 01's driver with Job 1's settle numbers, Job 2's way back from a sheet and Job 3's writing
+//! of hashes, written a second time, without any code of the harness. One fault can be planted in it.
 
 mod driver;
 mod fault;
 mod form;
+mod hash;
 mod read;
 mod rebuild;
 mod rules;

@@ -1,7 +1,7 @@
 //! A line read as nested forms, and a form read as a call.
 
 use crate::fault::Fault;
-use crate::state::{Anchor, Call, Hash, Skip};
+use crate::state::{Anchor, Call, Skip};
 
 /// A word, or a bracketed row of forms.
 pub(crate) enum Form<'a> {
@@ -16,12 +16,63 @@ pub enum Bad {
     WaiterNumber,
 }
 
+/// Where the text stands that is read.
+#[derive(Clone, Copy, PartialEq, Eq)]
+pub enum Place {
+    Line,
+    Sheet,
+}
+
 #[derive(Clone, Copy)]
 pub struct Reader {
     pub fault: Option<Fault>,
+    pub place: Place,
 }
 
+/// The words with letters that are no hash, for planted faults only.
+const WORDS: [&[u8]; 35] = [
+    b"deliver",
+    b"claim",
+    b"release",
+    b"apply",
+    b"snapshot",
+    b"wait",
+    b"resume",
+    b"completion",
+    b"link",
+    b"report",
+    b"stats",
+    b"heads",
+    b"sheet",
+    b"no-hash",
+    b"rpc",
+    b"decode",
+    b"count",
+    b"current",
+    b"superseded",
+    b"installed",
+    b"previous",
+    b"unclaimed",
+    b"preparing",
+    b"settled",
+    b"open",
+    b"abandoned",
+    b"ended",
+    b"carried",
+    b"cold",
+    b"ready",
+    b"no-parent",
+    b"not-consecutive",
+    b"hash-unknown",
+    b"hash-mismatch",
+    b"parked",
+];
+
 impl Reader {
+    pub(crate) fn has(&self, fault: Fault) -> bool {
+        self.fault == Some(fault)
+    }
+
     pub fn call(&self, line: &[u8]) -> Result<Call, Bad> {
         if line.len() > 512 {
             return Err(Bad::Line);
@@ -43,7 +94,7 @@ impl Reader {
             let stop = |byte: &u8| matches!(byte, b'(' | b')') || self.is_space(*byte);
             let length = text.iter().position(stop).unwrap_or(text.len());
             let (word, rest) = text.split_at(length);
-            return (length > 0).then_some((Form::Word(word), rest));
+            return (length > 0).then(|| (Form::Word(self.word(word)), rest));
         };
         let mut row = Vec::new();
         loop {
@@ -57,8 +108,24 @@ impl Reader {
         }
     }
 
+    /// The word as it stands, but for the faults that let its case go.
+    fn word<'a>(&self, word: &'a [u8]) -> &'a [u8] {
+        let (any_case, any_none) = match self.place {
+            Place::Line => (Fault::KeywordAnyCase, Fault::NoneAnyCase),
+            Place::Sheet => (Fault::SheetKeywordAnyCase, Fault::SheetNoneAnyCase),
+        };
+        if self.has(any_none) && word.eq_ignore_ascii_case(b"none") {
+            return b"none";
+        }
+        let known = |known: &&&[u8]| word.eq_ignore_ascii_case(known);
+        match WORDS.iter().find(known) {
+            Some(known) if self.has(any_case) => known,
+            _ => word,
+        }
+    }
+
     fn is_space(&self, byte: u8) -> bool {
-        byte == b' ' || (byte == b'\t' && self.fault == Some(Fault::TabIsSpace))
+        byte == b' ' || (byte == b'\t' && self.has(Fault::TabIsSpace))
     }
 
     fn row(&self, row: &[Form]) -> Result<Call, Bad> {
@@ -124,18 +191,6 @@ impl Reader {
         })
     }
 
-    pub(crate) fn hash(&self, form: &Form) -> Option<Hash> {
-        let Form::Word(word) = form else {
-            return None;
-        };
-        let mut hash: Hash = (*word).try_into().ok()?;
-        if self.fault == Some(Fault::CapitalHex) {
-            hash.make_ascii_lowercase();
-        }
-        let digits = hash.iter().all(|byte| b"0123456789abcdef".contains(byte));
-        digits.then_some(hash)
-    }
-
     pub(crate) fn number(&self, form: &Form) -> Option<u64> {
         let Form::Word(word) = form else {
             return None;
@@ -143,11 +198,11 @@ impl Reader {
         if !word.iter().all(u8::is_ascii_digit) {
             return None;
         }
-        if word.len() > 1 && word[0] == b'0' && self.fault != Some(Fault::LeadingZero) {
+        if word.len() > 1 && word[0] == b'0' && !self.has(Fault::LeadingZero) {
             return None;
         }
         let text = std::str::from_utf8(word).ok()?;
-        if self.fault == Some(Fault::NumberWraps) {
+        if self.has(Fault::NumberWraps) {
             // The low 64 bits of a number of up to 38 digits.
             return text.parse::<u128>().ok().map(|number| number as u64);
         }

@@ -1,7 +1,7 @@
 //! A driver put back from its sheet.
 
 use crate::fault::Fault;
-use crate::read::Reader;
+use crate::read::{Place, Reader};
 use crate::rules::broken;
 use crate::state::{End, Head, Model, Pose, Shown, ShownHead, Stage, Waiter, DELIVERED};
 
@@ -27,7 +27,9 @@ impl Model {
         if bytes.len() > LONGEST_SHEET {
             return Err(NotTaken::Form);
         }
-        let shown = Reader { fault }.sheet(bytes).ok_or(NotTaken::Form)?;
+        let place = Place::Sheet;
+        let shown = Reader { fault, place }.sheet(bytes);
+        let shown = shown.ok_or(NotTaken::Form)?;
         match broken(&shown, fault) {
             Some(rule) => Err(NotTaken::Rule(rule)),
             None => Ok(Self::from_shown(&shown, fault)),
@@ -128,7 +130,7 @@ mod tests {
 
     /// Document 01's run up to its claim, with a waiter parked.
     fn preparing() -> String {
-        let zeros = "0".repeat(64);
+        let zeros = format!("0x{}", "0".repeat(64));
         format!(
             "(count 1 0 0 0 0 0 0 1 1)\n\
              (current preparing (7 none) {zeros} 50)\n\
@@ -164,6 +166,59 @@ mod tests {
             (settled (cold no-parent no-hash))\n\
             (stats 1 0 0 1 0 0 0 2)\n";
         assert_eq!(answers(&preparing(), lines), expected);
+    }
+
+    /// A sheet in which every anchor has a hash with a letter.
+    fn with_hashes(hash: &str) -> String {
+        format!(
+            "(count 2 0 0 2 0 0 0 0 1)\n\
+             (current settled (8 {hash}) {hash} ((carried 5) 91))\n\
+             (superseded (6 {hash}))\n\
+             (installed (8 {hash}) 61 2 ready)\n\
+             (previous (7 {hash}) 60 1 (cold no-parent none))\n\
+             (wait 0 abandoned (7 {hash}))\n\
+             (wait 15 ended (7 {hash}))\n"
+        )
+    }
+
+    #[test]
+    fn hashes_stand_with_0x_in_lowercase() {
+        let digits = "0123456789abcdef".repeat(4);
+        let hash = format!("0x{digits}");
+        let sheet = with_hashes(&hash);
+        assert_eq!(answers(&sheet, "(sheet)\n"), sheet);
+        let places = sheet.match_indices(&hash).count();
+        assert_eq!(places, 7);
+        let mut capital = hash.clone();
+        capital[65..].make_ascii_uppercase();
+        for other in [
+            capital,
+            digits.clone(),
+            format!("0X{digits}"),
+            format!("0x{}", &digits[1..]),
+            format!("0x{digits}0"),
+        ] {
+            for place in 0..places {
+                let parts: Vec<_> = sheet.splitn(place + 2, &hash).collect();
+                let damaged = format!("{}{other}{}", parts[..=place].join(&hash), parts[place + 1]);
+                let taken = Model::from_sheet(damaged.as_bytes(), None);
+                assert_eq!(taken.err(), Some(NotTaken::Form), "{damaged}");
+            }
+        }
+    }
+
+    #[test]
+    fn a_line_may_write_a_hash_in_capitals() {
+        let hash = format!("0x{}", "0123456789abcdef".repeat(4));
+        let capital = format!("0x{}", "0123456789ABCDEF".repeat(4));
+        let sheet = with_hashes(&hash);
+        let lines = format!("(snapshot (8 {capital}) 1)\n(completion (8 {capital}))\n(heads)\n");
+        let expected = format!(
+            "(view installed 61 2 ready)\n\
+             (completion settled)\n\
+             (heads (8 {hash}) (8 {hash}) (7 {hash}))\n"
+        );
+        assert_eq!(answers(&sheet, &lines), expected);
     }
 
     #[test]

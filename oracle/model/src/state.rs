@@ -3,7 +3,7 @@
 
 use crate::fault::Fault;
 
-/// A hash as its 64 digits.
+/// A hash as its 64 digits, in lowercase.
 pub type Hash = [u8; 64];
 
 #[derive(Clone, Copy, PartialEq, Eq)]

@@ -93,7 +93,7 @@ impl Display for Report {
 impl Display for Anchor {
     fn fmt(&self, f: &mut Formatter) -> fmt::Result {
         match &self.hash {
-            Some(hash) => write!(f, "({} {})", self.number, digits(hash)),
+            Some(hash) => write!(f, "({} 0x{})", self.number, digits(hash)),
             None => write!(f, "({} none)", self.number),
         }
     }
@@ -102,7 +102,7 @@ impl Display for Anchor {
 impl Display for ShownHead {
     fn fmt(&self, f: &mut Formatter) -> fmt::Result {
         let anchor = self.anchor;
-        let parent = digits(&self.parent);
+        let parent = format!("0x{}", digits(&self.parent));
         match self.stage {
             Stage::Unclaimed { handle, abandoned } => {
                 let end = if abandoned { "abandoned" } else { "open" };

@@ -1,4 +1,4 @@
-//! The cases of document 01 and Job 1: `cases.txt` read.
+//! The cases of document 01, Job 1 and Job 3: `cases.txt` read.
 
 use crate::filter::without_numbers;
 use crate::program::Program;
@@ -6,8 +6,15 @@ use std::fmt::Write;
 
 const CASES: &str = include_str!("../cases.txt");
 
-/// The letters that stand for hashes of one digit 64 times.
-const HASHES: [(&str, &str); 3] = [("Z", "0"), ("Y", "1"), ("W", "2")];
+/// The letters that stand for hashes of two digits 32 times.
+const HASHES: [(&str, &str); 6] = [
+    ("Z", "00"),
+    ("Y", "11"),
+    ("W", "22"),
+    ("V", "ab"),
+    ("U", "AB"),
+    ("T", "aB"),
+];
 
 /// A case: what goes in and what must come out.
 pub struct Case {
@@ -71,8 +78,8 @@ impl Case {
 /// A line of `text` with the letters for hashes written out.
 fn put(text: &mut String, line: &str) {
     let mut line = line.to_owned();
-    for (letter, digit) in HASHES {
-        line = line.replace(letter, &digit.repeat(64));
+    for (letter, digits) in HASHES {
+        line = line.replace(letter, &format!("0x{}", digits.repeat(32)));
     }
     text.push_str(&line);
     text.push('\n');
@@ -112,7 +119,7 @@ mod tests {
     }
 
     #[test]
-    fn example_edges_traps_and_settle_numbers_are_all_there() {
+    fn example_edges_traps_and_jobs_are_all_there() {
         let names: Vec<_> = cases().iter().map(|case| case.name).collect();
         assert_eq!(names[0], "worked example");
         for (edge, name) in (1..=12).zip(&names[1..]) {
@@ -120,7 +127,9 @@ mod tests {
         }
         let traps = names.iter().filter(|name| name.starts_with("trap: "));
         assert_eq!(traps.count(), 5);
-        let job = names.iter().filter(|name| name.starts_with("Job 1: "));
-        assert_eq!(job.count(), 2);
+        for job in ["Job 1: ", "Job 3: "] {
+            let of_job = names.iter().filter(|name| name.starts_with(job));
+            assert_eq!(of_job.count(), 2, "{job}");
+        }
     }
 }

@@ -83,10 +83,6 @@ pub(crate) const DAMAGES: &[Damage] = &[
     text("number-zero", text::number_zero),
     text("word-replaced", text::word_replaced),
     text("cut-short", text::cut_short),
-    text("capital-digit", |sheet, random| {
-        text::capital_digit(sheet, random)
-    }),
-    text("hash-of-another-length", text::hash_of_another_length),
     ill_formed("number-2-64-or-above", nothing, text::number_over_end),
     ill_formed(
         "number-leading-zero",
@@ -101,6 +97,34 @@ pub(crate) const DAMAGES: &[Damage] = &[
     ill_formed("bytes-before", nothing, text::bytes_before),
     ill_formed("lengthened", nothing, text::lengthened),
     ill_formed("twice", nothing, text::twice),
+    ill_formed("capital-letter", nothing, |sheet, random| {
+        text::capital_letter(sheet, random)
+    }),
+    ill_formed("capital-digit", rule::with_letters, |sheet, random| {
+        text::capital_digit(sheet, random)
+    }),
+    ill_formed("hash-bare", rule::with_letters, text::hash_bare),
+    ill_formed("hash-with-0X", rule::with_letters, |sheet, random| {
+        text::hash_with_capital_x(sheet, random)
+    }),
+    ill_formed(
+        "hash-of-63-digits",
+        rule::with_letters,
+        text::hash_of_63_digits,
+    ),
+    ill_formed(
+        "hash-of-65-digits",
+        rule::with_letters,
+        text::hash_of_65_digits,
+    ),
+    ill_formed(
+        "hash-ill-written",
+        rule::with_letters,
+        text::hash_ill_written,
+    ),
+    ill_formed("none-in-capitals", rule::no_head, |sheet, random| {
+        text::capital_none(sheet, random)
+    }),
     ill_formed(
         "settle-numbers-struck",
         rule::with_previous,
@@ -132,6 +156,7 @@ pub(crate) const DAMAGES: &[Damage] = &[
     taken("waiters-far", rule::waiters_far),
     taken("waiters-all", rule::waiters_all),
     taken("longest", rule::longest),
+    taken("hash-with-letters", rule::with_letters),
     taken("no-head", rule::no_head),
     taken("no-head-waiters", rule::no_head_waiters),
     broken("no-head-superseded", "no-head", rule::no_head_superseded),
@@ -280,6 +305,15 @@ mod tests {
                 }
             }
         }
+    }
+
+    #[test]
+    fn the_longest_sheet_has_2694_bytes() {
+        let mut shown = Model::new([0; 9], None).shown();
+        rule::longest(&mut shown, &mut Random::new(1));
+        let sheet = shown.to_string().into_bytes();
+        assert_eq!(sheet.len(), 2_694);
+        assert!(Model::from_sheet(&sheet, None).is_ok());
     }
 
     #[test]

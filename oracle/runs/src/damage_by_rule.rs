@@ -503,6 +503,17 @@ pub(crate) fn longest(shown: &mut Shown, random: &mut Random) {
     };
 }
 
+/// A hash with a letter at least, for what the text does to it.
+pub(crate) fn with_letters(shown: &mut Shown, random: &mut Random) {
+    let mut hash = hash(random);
+    hash[random.below(64)] = random.pick(b"abcdef");
+    let anchor = Anchor {
+        number: number(random),
+        hash: Some(hash),
+    };
+    shown.waiters[random.below(16)] = Waiter::Ended(anchor);
+}
+
 /// Two waiters at least, for what the text does to them.
 pub(crate) fn waiters_some(shown: &mut Shown, random: &mut Random) {
     unpark(shown, random);

@@ -1,16 +1,20 @@
 //! Damages to the text of a sheet, whatever it shows.
 
 use crate::filter::without_numbers;
-use crate::malformed::{positions, words};
+use crate::hashes::{digits, hashes};
+use crate::malformed::{positions, words, ZEROS};
 use crate::random::Random;
 use std::ops::Range;
 
 /// Bytes that stand somewhere in a sheet, and some that stand in none.
-const BYTES: &[u8] = b"0123456789abcdef ()\nnopstuw-\r\t\0\x80\xffAFZ+,";
+const BYTES: &[u8] = b"0123456789abcdef ()\nnopstuwx-\r\t\0\x80\xffAFXZ+,/:@G`g";
 
 /// Words that stand somewhere in a sheet, and some that stand in none.
-const WORDS: [&[u8]; 29] = [
+const WORDS: [&[u8]; 32] = [
     b"none",
+    b"None",
+    b"0x",
+    ZEROS,
     b"open",
     b"abandoned",
     b"ended",
@@ -186,35 +190,112 @@ pub(crate) fn word_replaced(text: &mut Vec<u8>, random: &mut Random) {
     text.splice(at, random.pick(&WORDS).iter().copied());
 }
 
-pub(crate) fn capital_digit(text: &mut [u8], random: &mut Random) {
+/// One of a sheet's hashes and where its digits stand.
+fn a_hash(text: &[u8], random: &mut Random) -> Option<(Range<usize>, Range<usize>)> {
     let hashes = hashes(text);
-    let letters: Vec<_> = hashes
+    let at = (!hashes.is_empty()).then(|| random.below(hashes.len()))?;
+    Some((hashes[at].clone(), digits(&hashes[at])))
+}
+
+/// A letter of a hash in capitals, or all letters of one, or of each.
+pub(crate) fn capital_digit(text: &mut [u8], random: &mut Random) {
+    let of_all: Vec<_> = hashes(text).iter().flat_map(digits).collect();
+    let letters: Vec<_> = of_all
         .into_iter()
-        .flatten()
         .filter(|at| text[*at].is_ascii_lowercase())
         .collect();
-    if !letters.is_empty() {
-        text[random.pick(&letters)].make_ascii_uppercase();
-    }
-}
-
-/// A hash with a digit too few or too many.
-pub(crate) fn hash_of_another_length(text: &mut Vec<u8>, random: &mut Random) {
-    let hashes = hashes(text);
-    if hashes.is_empty() {
+    if letters.is_empty() {
         return;
     }
-    let hash = hashes[random.below(hashes.len())].clone();
-    if random.chance(50) {
-        text.remove(hash.start);
-    } else {
-        text.insert(hash.end, b'0');
+    let one = random.pick(&letters);
+    let among: Vec<_> = match random.below(3) {
+        0 => vec![one],
+        1 => {
+            let hashes = hashes(text);
+            let hash = hashes.into_iter().find(|hash| hash.contains(&one));
+            hash.as_ref().map(digits).into_iter().flatten().collect()
+        }
+        _ => letters,
+    };
+    among
+        .into_iter()
+        .for_each(|at| text[at].make_ascii_uppercase());
+}
+
+/// A hash as it was written before it had a `0x`.
+pub(crate) fn hash_bare(text: &mut Vec<u8>, random: &mut Random) {
+    if let Some((hash, digits)) = a_hash(text, random) {
+        text.drain(hash.start..digits.start);
     }
 }
 
-fn hashes(text: &[u8]) -> Vec<Range<usize>> {
-    let words = words(text);
-    words.into_iter().filter(|word| word.len() == 64).collect()
+pub(crate) fn hash_with_capital_x(text: &mut [u8], random: &mut Random) {
+    if let Some((hash, digits)) = a_hash(text, random) {
+        text[hash.start..digits.start].make_ascii_uppercase();
+    }
+}
+
+pub(crate) fn hash_of_63_digits(text: &mut Vec<u8>, random: &mut Random) {
+    if let Some((_, digits)) = a_hash(text, random) {
+        text.remove(digits.start + random.below(digits.len()));
+    }
+}
+
+pub(crate) fn hash_of_65_digits(text: &mut Vec<u8>, random: &mut Random) {
+    if let Some((_, digits)) = a_hash(text, random) {
+        let at = digits.start + random.below(digits.len() + 1);
+        text.insert(at, random.pick(b"0123456789abcdef"));
+    }
+}
+
+/// A hash with other beginnings or with no digit, or with a byte that is next to the digits.
+pub(crate) fn hash_ill_written(text: &mut Vec<u8>, random: &mut Random) {
+    let Some((hash, digits)) = a_hash(text, random) else {
+        return;
+    };
+    let at = digits.start + random.below(digits.len());
+    match random.below(8) {
+        0 => drop(text.drain(digits)),
+        1 => drop(text.remove(hash.start)),
+        2 => text[hash.start..digits.start].copy_from_slice(b"00"),
+        3 => drop(text.splice(hash.start..hash.start, *b"0x")),
+        _ => text[at] = random.pick(b"/:@G`g"),
+    }
+}
+
+/// A letter that is no digit in capitals, or all letters of its word.
+pub(crate) fn capital_letter(text: &mut [u8], random: &mut Random) {
+    let mut words = words(text);
+    words.retain(|word| text[word.clone()].iter().any(u8::is_ascii_lowercase));
+    words.retain(|word| !text[word.clone()].starts_with(b"0x"));
+    if words.is_empty() {
+        return;
+    }
+    let word = words[random.below(words.len())].clone();
+    let letters: Vec<_> = word
+        .clone()
+        .filter(|at| text[*at].is_ascii_lowercase())
+        .collect();
+    let at = random.pick(&letters);
+    let letters = random.pick(&[word.start, at]);
+    let letters = if random.chance(50) {
+        word
+    } else {
+        letters..letters + 1
+    };
+    text[letters].make_ascii_uppercase();
+}
+
+/// Each `none` with a capital.
+pub(crate) fn capital_none(text: &mut [u8], random: &mut Random) {
+    let mut nones = words(text);
+    nones.retain(|word| &text[word.clone()] == b"none");
+    if nones.is_empty() {
+        return;
+    }
+    let none = nones[random.below(nones.len())].clone();
+    let to = none.start + random.pick(&[1, 4]);
+    text[none.start..to].make_ascii_uppercase();
 }
 
 pub(crate) fn space_doubled(text: &mut Vec<u8>, random: &mut Random) {

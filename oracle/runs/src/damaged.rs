@@ -284,8 +284,8 @@ fn changed_sheets() -> impl Iterator<Item = (&'static str, Vec<u8>)> {
     CHANGED.iter().flat_map(|lines| {
         let mut driver = Driver::new([0; COUNTERS], None);
         for line in *lines {
-            let line = line.replace('H', &"ab".repeat(32));
-            let line = line.replace('Z', &"0".repeat(64));
+            let line = line.replace('H', &format!("0x{}", "ab".repeat(32)));
+            let line = line.replace('Z', &format!("0x{}", "0".repeat(64)));
             driver
                 .answer_line(line.as_bytes(), &mut Vec::new())
                 .expect("a Vec takes every write");

@@ -113,16 +113,16 @@ mod tests {
             "(installed (7 none) 60 (cold no-parent no-hash))",
         ),
         (
-            "(installed (7 1111) 60 1 (cold none (decode 3)))",
-            "(installed (7 1111) 60 (cold none (decode 3)))",
+            "(installed (7 0x1111) 60 1 (cold none (decode 3)))",
+            "(installed (7 0x1111) 60 (cold none (decode 3)))",
         ),
         (
             "(previous (7 none) 60 10 ready)",
             "(previous (7 none) 60 ready)",
         ),
         (
-            "(previous (7 1111) 1 1 ready)",
-            "(previous (7 1111) 1 ready)",
+            "(previous (7 0x1111) 1 1 ready)",
+            "(previous (7 0x1111) 1 ready)",
         ),
         (
             "(previous (7 none) 60 1 (cold hash-unknown none))",
@@ -139,8 +139,8 @@ mod tests {
         "(view spare 70 undelivered)",
         "(installed none)",
         "(previous none)",
-        "(current settled (7 none) 1111 ((cold no-parent no-hash) 90))",
-        "(current settled (7 none) 1111 none)",
+        "(current settled (7 none) 0x1111 ((cold no-parent no-hash) 90))",
+        "(current settled (7 none) 0x1111 none)",
         "(settled (carried 5))",
         "(settled (cold no-parent no-hash))",
         "(heads (7 none) (7 none) none)",
@@ -198,17 +198,17 @@ mod tests {
     }
 
     const SHEET: &str = "(count 2 0 0 2 0 0 0 3 2)\n\
-        (current settled (7 none) 1111 ((carried 5) 91))\n\
+        (current settled (7 none) 0x1111 ((carried 5) 91))\n\
         (superseded (6 none))\n\
         (installed (7 none) 61 ready)\n\
-        (previous (6 1111) 60 (cold no-parent none))\n\
+        (previous (6 0x1111) 60 (cold no-parent none))\n\
         (wait 1 ended (7 none))\n";
 
     #[test]
     fn numbers_are_put_where_they_are_struck() {
         let numbered = with_numbers(SHEET, [Some(2), Some(1)]);
         assert!(numbered.contains("\n(installed (7 none) 61 2 ready)\n"));
-        assert!(numbered.contains("\n(previous (6 1111) 60 1 (cold no-parent none))\n"));
+        assert!(numbered.contains("\n(previous (6 0x1111) 60 1 (cold no-parent none))\n"));
         assert_eq!(struck(&numbered), SHEET);
         assert_eq!(with_numbers(SHEET, [None, None]), SHEET);
         let empty = "(installed none)\n(previous none)\n";

@@ -3,32 +3,34 @@
 use crate::script::Script;
 use harness::LONGEST_LINE;
 
-const A: &str = "1111111111111111111111111111111111111111111111111111111111111111";
-const B: &str = "22222222222222222222222222222222222222222222222222222222222222ab";
+/// The digits of two hashes. The first has each letter in either case.
+const A: &str = "0123456789abcdefABCDEF0123456789AbCdEffEdCbAaBcDeF11111111111111";
+const B: &str = "222222222222222222222222222222222222222222222222222222222222aBcD";
 
 /// Lines for short scripts: two blocks, of which the second is the first one's
-/// child, one without a hash, and every call at them.
+/// child, one without a hash, and every call at them. `$A` and `$a` are one hash
+/// with each letter in the other case; so are `$B` and `$b`.
 const ALPHABET: [&str; 26] = [
     "(deliver (7 $A) $B 50)",
-    "(deliver (8 $B) $A 51)",
-    "(deliver (7 none) $B 50)",
-    "(claim (7 $A) 1)",
+    "(deliver (8 $B) $a 51)",
+    "(deliver (7 none) $b 50)",
+    "(claim (7 $a) 1)",
     "(claim (8 $B) 2)",
     "(release 1 1)",
     "(release 2 1)",
-    "(apply (7 $A) 1 (7 $A) none 60 5 90)",
+    "(apply (7 $a) 1 (7 $A) none 60 5 90)",
     "(apply (7 $A) 1 (7 $A) (rpc 4) 60 5 90)",
-    "(apply (7 $A) 1 (8 $B) (decode 3) 60 5 90)",
-    "(apply (8 $B) 2 (8 $B) none 61 6 91)",
+    "(apply (7 $A) 1 (8 $b) (decode 3) 60 5 90)",
+    "(apply (8 $B) 2 (8 $b) none 61 6 91)",
     "(apply (7 none) 1 (7 none) no-hash 62 0 92)",
     "(apply (7 $A) 1 (7 $A) no-hash 60 5 90)",
     "(snapshot (7 $A) 70)",
-    "(snapshot (8 $B) 71)",
-    "(wait 0 (7 $A) 80)",
+    "(snapshot (8 $b) 71)",
+    "(wait 0 (7 $a) 80)",
     "(wait 16 (7 $A) 80)",
     "(resume 0 81)",
-    "(completion (7 $A))",
-    "(link (7 $A) (8 none) $A)",
+    "(completion (7 $a))",
+    "(link (7 $A) (8 none) $a)",
     "(link none (7 none) $B)",
     "(report)",
     "(stats)",
@@ -40,8 +42,8 @@ const ALPHABET: [&str; 26] = [
 /// Every form of every call, as changes of its bytes start from it.
 const FORMS: [&str; 20] = [
     "(deliver (7 $A) $B 50)",
-    "(deliver (10 none) $B 0)",
-    "(claim (7 $A) 1)",
+    "(deliver (10 none) $b 0)",
+    "(claim (7 $a) 1)",
     "(claim (10 none) 12)",
     "(release 1 1)",
     "(apply (7 $A) 1 (7 $B) none 60 5 90)",
@@ -49,11 +51,11 @@ const FORMS: [&str; 20] = [
     "(apply (7 none) 1 (7 $A) (rpc 4) 60 5 90)",
     "(apply (7 none) 1 (7 $A) (decode 18446744073709551615) 60 5 90)",
     "(snapshot (7 $A) 70)",
-    "(wait 15 (7 $A) 80)",
+    "(wait 15 (7 $a) 80)",
     "(wait 18446744073709551615 (7 none) 80)",
     "(resume 3 81)",
     "(completion (7 $A))",
-    "(link (7 $A) (8 $B) $A)",
+    "(link (7 $A) (8 $B) $a)",
     "(link none (7 none) $B)",
     "(report)",
     "(stats)",
@@ -69,7 +71,23 @@ pub const SHORT_SCRIPTS: usize = ALPHABET.len().pow(3);
 pub const CHANGED_SCRIPTS: usize = FORMS.len() + 1;
 
 fn line(form: &str) -> Vec<u8> {
-    form.replace("$A", A).replace("$B", B).into_bytes()
+    let mut line = form.to_owned();
+    for (letters, digits) in [(["$A", "$a"], A), (["$B", "$b"], B)] {
+        let [one, other] = [digits.to_owned(), with_other_case(digits)];
+        for (letter, digits) in letters.into_iter().zip([one, other]) {
+            line = line.replace(letter, &format!("0x{digits}"));
+        }
+    }
+    line.into_bytes()
+}
+
+/// The text with small letters for capitals and capitals for small letters.
+fn with_other_case(text: &str) -> String {
+    let other = |letter: char| match letter {
+        'a'..='z' => letter.to_ascii_uppercase(),
+        _ => letter.to_ascii_lowercase(),
+    };
+    text.chars().map(other).collect()
 }
 
 /// Every script of three lines of the alphabet, with a sheet at its end. The
@@ -141,4 +159,34 @@ fn long_lines() -> Script {
         }
     }
     script
+}
+
+#[cfg(test)]
+mod tests {
+    use super::*;
+    use harness::{Call, Start};
+
+    #[test]
+    fn the_forms_are_calls_in_either_writing() {
+        for form in FORMS {
+            assert!(Call::read(&line(form)).is_some(), "{form}");
+        }
+        let [one, other] = ["(claim (7 $A) 1)", "(claim (7 $a) 1)"].map(line);
+        assert_ne!(one, other);
+        assert_eq!(Call::read(&one), Call::read(&other));
+        for case in [u8::is_ascii_lowercase, u8::is_ascii_uppercase] {
+            assert!(A.bytes().any(|byte| case(&byte)) && B.bytes().any(|byte| case(&byte)));
+        }
+    }
+
+    #[test]
+    fn the_other_case_is_the_same_hash() {
+        let script: Script = ["(deliver (7 $A) $B 50)", "(deliver (7 $a) $b 50)"]
+            .map(line)
+            .iter()
+            .map(Vec::as_slice)
+            .collect();
+        let answers = script.answers(Start::default());
+        assert_eq!(answers.text(), b"(ticket 1)\n(ticket 1)\n");
+    }
 }

@@ -4,6 +4,7 @@
 //! ticket and epoch and which anchors are installed; it aims most calls at them
 //! and the rest beside them.
 
+use crate::hashes::vary_case;
 use crate::malformed::spoil;
 use crate::random::Random;
 use crate::script::{Script, Transcript};
@@ -38,8 +39,8 @@ pub fn generate(seed: u64, recipe: &Recipe) -> (Script, Transcript) {
     let mut transcript = Transcript::default();
     let mut line = Vec::new();
     for _ in 0..recipe.lines {
-        line.clear();
-        generator.call().write(&mut line);
+        let call = generator.call();
+        generator.write(call, &mut line);
         if generator.random.below(1000) < recipe.malformed {
             spoil(&mut line, &mut generator.random);
         }
@@ -78,8 +79,7 @@ pub(crate) fn further(lines: &Script, hashes: [B256; 7], seed: u64, calls: usize
         if call == Call::Sheet {
             continue;
         }
-        line.clear();
-        call.write(&mut line);
+        generator.write(call, &mut line);
         let answer = oracle.step(call);
         generator.observe(call, &answer);
         script.push(&line);
@@ -102,7 +102,8 @@ impl Aimed {
     pub(crate) fn line(&mut self, model: &Model) -> Vec<u8> {
         self.0.stand_at(&model.shown());
         let mut line = Vec::new();
-        self.0.call().write(&mut line);
+        let call = self.0.call();
+        self.0.write(call, &mut line);
         if self.0.random.below(1000) < AIMED_MALFORMED {
             spoil(&mut line, &mut self.0.random);
         }
@@ -161,8 +162,14 @@ enum Pose {
 /// Lines between two changes of the neighbourhood, on average.
 const STAY: usize = 100;
 
+/// What the numbers for the case of hash digits begin with, so that they are others than those for
+/// the calls.
+const CASE: u64 = 0x6361_7365;
+
 struct Generator {
     random: Random,
+    /// For the case of the digits of hashes.
+    case: Random,
     /// Few hashes, some of which differ in one bit only.
     hashes: [B256; 7],
     /// The lowest of the four block numbers in use; they wrap after 2^64 - 1.
@@ -184,6 +191,7 @@ impl Generator {
         let hashes = hashes(&mut random);
         let mut generator = Self {
             random,
+            case: Random::new(seed ^ CASE),
             hashes,
             lowest: 0,
             seq: start.stats.delivered,
@@ -234,6 +242,13 @@ impl Generator {
             at -= weights[pose];
         }
         unreachable!("a number below the sum falls on one of the weights")
+    }
+
+    /// Write the call's line, the digits of its hashes in random case.
+    fn write(&mut self, call: Call, line: &mut Vec<u8>) {
+        line.clear();
+        call.write(line);
+        vary_case(line, &mut self.case);
     }
 
     /// Learn from the answer what the next calls aim at.
@@ -520,6 +535,8 @@ fn hashes(random: &mut Random) -> [B256; 7] {
 #[cfg(test)]
 mod tests {
     use super::*;
+    use crate::hashes::hashes;
+    use crate::malformed::words;
     use crate::tally::Tally;
 
     const SHORT: usize = 5_000;
@@ -574,6 +591,67 @@ mod tests {
         for byte in [b'\r', b'\t', 0, 0xff, b'A'] {
             assert!(text.contains(&byte), "{byte}");
         }
+    }
+
+    /// The writings beside a hash that are none, and words with a capital.
+    #[test]
+    fn malformed_hashes_and_words_are_of_every_sort() {
+        let mut text = Vec::new();
+        for seed in 0..20 {
+            text.extend_from_slice(generate(seed, &recipe(500)).0.text());
+        }
+        let words: Vec<_> = words(&text)
+            .into_iter()
+            .map(|word| text[word].to_vec())
+            .collect();
+        let some = |fits: &dyn Fn(&[u8]) -> bool| words.iter().any(|word| fits(word));
+        let digits = |word: &[u8], begin: &[u8], count: usize| {
+            let digits = word.strip_prefix(begin);
+            let hexadecimal = |digits: &[u8]| digits.iter().all(u8::is_ascii_hexdigit);
+            digits.is_some_and(|digits| digits.len() == count && hexadecimal(digits))
+        };
+        assert!(some(&|word| digits(word, b"", 64)));
+        assert!(some(&|word| digits(word, b"0X", 64)));
+        assert!(some(&|word| digits(word, b"x", 64)));
+        assert!(some(&|word| digits(word, b"00", 64)));
+        assert!(some(&|word| digits(word, b"0x0x", 64)));
+        assert!(some(&|word| digits(word, b"0x", 63)));
+        assert!(some(&|word| digits(word, b"0x", 65)));
+        assert!(some(&|word| word == b"0x"));
+        for next in b"/:@G`g" {
+            let one = |word: &[u8]| {
+                let others = word.iter().filter(|byte| *byte != next);
+                let others: Vec<_> = others.copied().collect();
+                word.len() == 66 && digits(&others, b"0x", 63)
+            };
+            assert!(some(&one), "{next}");
+        }
+        for word in [
+            "None", "NONE", "Deliver", "APPLY", "No-hash", "Rpc", "DECODE",
+        ] {
+            assert!(some(&|other| other == word.as_bytes()), "{word}");
+        }
+    }
+
+    #[test]
+    fn hashes_are_written_in_either_case_and_both() {
+        let (script, answers) = generate(1, &recipe(0));
+        let mut seen = [0; 4];
+        for line in script.lines() {
+            for hash in hashes(line) {
+                let small = line[hash.clone()][2..].iter().any(u8::is_ascii_lowercase);
+                let capital = line[hash][2..].iter().any(u8::is_ascii_uppercase);
+                seen[usize::from(small) + 2 * usize::from(capital)] += 1;
+            }
+        }
+        assert!(seen.iter().all(|count| *count > SHORT / 20), "{seen:?}");
+        // No answer goes by the case, nor shows it.
+        let lowercase = script.text().to_ascii_lowercase();
+        let lines = lowercase.split(|byte| *byte == b'\n');
+        let lowercase: Script = lines.take(script.len()).collect();
+        let others = lowercase.answers(Start::default());
+        assert_eq!(others.text(), answers.text());
+        assert!(!answers.text().iter().any(u8::is_ascii_uppercase));
     }
 
     #[test]

@@ -2,6 +2,7 @@
 //! them lead to the same sheet.
 
 use crate::filter::with_numbers;
+use crate::hashes::vary_case;
 use crate::random::Random;
 use crate::script::Script;
 use harness::{Answer, Apply, Call, Oracle, Outcome, ReadAnchor, Skip, Unshown, B256};
@@ -30,9 +31,9 @@ impl History {
 /// The hashes of the histories' anchors.
 pub(crate) const HASHES: [B256; 4] = [
     B256([0; 32]),
-    B256([0x11; 32]),
-    B256([0x22; 32]),
-    B256([0x33; 32]),
+    B256([0x1a; 32]),
+    B256([0x2b; 32]),
+    B256([0x3c; 32]),
 ];
 
 /// Each block may be the child of the one before.
@@ -61,9 +62,13 @@ const fn anchor(number: u64, hash: Option<B256>) -> ReadAnchor {
 /// Calls of a history, at least and at most.
 const CALLS: (usize, usize) = (3, 12);
 
+/// What the numbers for the case of hash digits begin with.
+const CASE: u64 = 0x6361_7365;
+
 /// The history of a number: the same number gives the same history.
 pub(crate) fn history(number: u64) -> History {
     let mut random = Random::new(number);
+    let mut case = Random::new(number ^ CASE);
     let (least, most) = CALLS;
     let calls = least + random.below(most - least + 1);
     let mut oracle = Oracle::default();
@@ -80,6 +85,7 @@ pub(crate) fn history(number: u64) -> History {
         numbers = numbers_after(numbers, &call, &answer);
         line.clear();
         call.write(&mut line);
+        vary_case(&mut line, &mut case);
         script.push(&line);
     }
     let mut sheet = Vec::new();
@@ -160,7 +166,10 @@ mod tests {
             let mut oracle = Oracle::default();
             let mut numbers = [None; 2];
             for line in case.input.lines() {
-                let call = Call::read(line.as_bytes()).expect("every line of a case is a call");
+                // A line that is no call answers so and changes nothing.
+                let Some(call) = Call::read(line.as_bytes()) else {
+                    continue;
+                };
                 let answer = oracle.step(call);
                 numbers = numbers_after(numbers, &call, &answer);
                 if call == Call::Sheet {

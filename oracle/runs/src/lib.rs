@@ -9,6 +9,7 @@ pub mod damaged;
 pub mod filter;
 mod forms;
 mod generator;
+mod hashes;
 mod histories;
 mod malformed;
 pub mod options;

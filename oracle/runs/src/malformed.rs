@@ -1,14 +1,21 @@
 //! Lines that are no call, made by spoiling one that is.
 
+use crate::hashes::{digits, hashes, PREFIX};
 use crate::random::Random;
 use harness::LONGEST_LINE;
 
 /// Bytes that stand in no call, and bytes that stand only at their places.
-const BYTES: &[u8] = b"\r\t\0\x7f\x80\xc3\xff ()-0a9fAFnxZ_'\"+.,";
+const BYTES: &[u8] = b"\r\t\0\x7f\x80\xc3\xff ()-0a9fAFnxXZ_'\"+.,";
+
+/// The bytes next to the ranges of hex digits.
+const NEXT_TO_DIGITS: &[u8; 6] = b"/:@G`g";
+
+/// A hash as it was written before it had a `0x`.
+pub(crate) const ZEROS: &[u8; 64] = &[b'0'; 64];
 
 /// Spoil `line`. Now and then it is still a call, only another one.
 pub(crate) fn spoil(line: &mut Vec<u8>, random: &mut Random) {
-    match random.below(16) {
+    match random.below(20) {
         0 => line.clear(),
         1 | 2 => {
             let at = random.below(line.len());
@@ -23,9 +30,10 @@ pub(crate) fn spoil(line: &mut Vec<u8>, random: &mut Random) {
         8 => spoil_a_space(line, random),
         9 => surround(line, random),
         10 | 11 => replace_a_decimal(line, random),
-        12 => raise_a_hex_digit(line, random),
-        13 => lengthen(line, random),
-        14 => replace_a_word(line, random),
+        12 => raise_a_letter(line, random),
+        13..17 => spoil_a_hash(line, random),
+        17 => lengthen(line, random),
+        18 => replace_a_word(line, random),
         _ => garbage(line, random),
     }
 }
@@ -82,15 +90,46 @@ fn replace_a_decimal(line: &mut Vec<u8>, random: &mut Random) {
     line.splice(at, number);
 }
 
-/// Turn a hex letter into its capital, or a digit into a letter that is none.
-fn raise_a_hex_digit(line: &mut [u8], random: &mut Random) {
-    let letters = positions(line, |byte| matches!(byte, b'a'..=b'f'));
-    if let Some(at) = (!letters.is_empty()).then(|| random.pick(&letters)) {
-        line[at] = if random.chance(80) {
-            line[at].to_ascii_uppercase()
-        } else {
-            b'g'
-        };
+/// Write the first letter of a word that is no hash as its capital, or another, or all.
+fn raise_a_letter(line: &mut [u8], random: &mut Random) {
+    let mut words = words(line);
+    words.retain(|word| line[word.clone()].iter().all(|byte| !byte.is_ascii_digit()));
+    if words.is_empty() {
+        return;
+    }
+    let word = words[random.below(words.len())].clone();
+    let word = match random.below(4) {
+        0 => word,
+        1 => word.start..word.start + 1,
+        _ => {
+            let at = word.start + random.below(word.len());
+            at..at + 1
+        }
+    };
+    line[word].make_ascii_uppercase();
+}
+
+/// Write a hash otherwise; where the line has none, spoil another word.
+fn spoil_a_hash(line: &mut Vec<u8>, random: &mut Random) {
+    let hashes = hashes(line);
+    if hashes.is_empty() {
+        raise_a_letter(line, random);
+        return;
+    }
+    let hash = hashes[random.below(hashes.len())].clone();
+    let digits = digits(&hash);
+    let prefix = hash.start..digits.start;
+    let at = digits.start + random.below(digits.len());
+    match random.below(12) {
+        0 | 1 => drop(line.drain(prefix)),
+        2 => line[prefix].make_ascii_uppercase(),
+        3 => drop(line.remove(prefix.start)),
+        4 => line[prefix].copy_from_slice(b"00"),
+        5 => drop(line.splice(prefix.start..prefix.start, PREFIX.iter().copied())),
+        6 => drop(line.drain(digits)),
+        7 => drop(line.remove(at)),
+        8 => line.insert(at, random.pick(b"0123456789abcdefABCDEF")),
+        _ => line[at] = random.pick(NEXT_TO_DIGITS),
     }
 }
 
@@ -108,8 +147,11 @@ fn replace_a_word(line: &mut Vec<u8>, random: &mut Random) {
         return;
     }
     let at = words[random.below(words.len())].clone();
-    let others: [&[u8]; 10] = [
+    let others: [&[u8]; 13] = [
         b"none",
+        b"None",
+        b"0x",
+        ZEROS,
         b"no-hash",
         b"(rpc 0)",
         b"(decode 1)",

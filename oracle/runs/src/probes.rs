@@ -28,7 +28,7 @@ pub(crate) struct Probe {
     pub(crate) calls: Vec<String>,
 }
 
-const ZERO: &str = "0000000000000000000000000000000000000000000000000000000000000000";
+const ZERO: &str = "0x0000000000000000000000000000000000000000000000000000000000000000";
 
 impl Part {
     pub(crate) const fn name(self) -> &'static str {

@@ -7,6 +7,8 @@
 //! lines of a script are left out.
 
 use crate::generator::{generate, Recipe};
+use crate::hashes::vary_case;
+use crate::random::Random;
 use crate::script::{Script, Transcript};
 use crate::tally::Tally;
 use harness::{Answer, Oracle, Start, COUNTERS};
@@ -135,25 +137,28 @@ const ROUND: [&str; 12] = [
     "(snapshot (C none) 0)",
 ];
 
-/// 21 rounds, over blocks and a hash of the seed's own.
+/// 21 rounds, over blocks and a hash of the seed's own, its digits in random case.
 fn put_crossing(script: &mut Script, seed: u64) {
     let mut oracle = Oracle::new(start(NEAR_THE_END));
     for line in script.lines() {
         oracle.answer_line(line);
     }
-    let hash = format!("{:02x}", seed % 256).repeat(32);
+    let hash = format!("0x{}", format!("{:02x}", seed % 256).repeat(32));
+    let mut random = Random::new(seed);
     let block = 10 * seed;
     for _ in 0..21 {
         for call in ROUND {
             let (seq, _) = oracle.sequence();
-            let line = call
+            let mut line = call
                 .replace('H', &hash)
                 .replace("SEQ", &seq.to_string())
                 .replace('A', &block.to_string())
                 .replace('B', &(block + 1).to_string())
-                .replace('C', &(block + 3).to_string());
-            oracle.answer_line(line.as_bytes());
-            script.push(line.as_bytes());
+                .replace('C', &(block + 3).to_string())
+                .into_bytes();
+            vary_case(&mut line, &mut random);
+            oracle.answer_line(&line);
+            script.push(&line);
         }
     }
 }

@@ -220,7 +220,8 @@ impl Search {
                 break;
             }
             let history = self.history(number);
-            if !known.insert(hash_of(&history.script.text())) {
+            // Histories that differ in the case of their hashes only are one.
+            if !known.insert(hash_of(&history.script.text().to_ascii_lowercase())) {
                 continue;
             }
             let sheet = hash_of(&self.planned(&history));

@@ -239,7 +239,7 @@ mod tests {
     use super::*;
 
     const SHEET: &str = "(count 1 2 3 4 5 6 7 8 9)\n\
-        (current unclaimed (7 none) 11 50 open)\n\
+        (current unclaimed (7 none) 0x11 50 open)\n\
         (superseded (6 none))\n\
         (installed (5 none) 60 8 (cold no-parent no-hash))\n\
         (previous (4 none) 1 7 ready)\n\
@@ -251,7 +251,7 @@ mod tests {
         let shown = Shown::read(SHEET);
         assert_eq!(shown.counters, ["1", "2", "3", "4", "5", "6", "7", "8"]);
         assert_eq!((shown.epoch, shown.pose), ("9", "unclaimed"));
-        assert_eq!((shown.current, shown.parent_hash), ("(7 none)", "11"));
+        assert_eq!((shown.current, shown.parent_hash), ("(7 none)", "0x11"));
         assert_eq!((shown.handle, shown.end), ("50", "open"));
         assert_eq!(shown.superseded, "(6 none)");
         assert_eq!(shown.installed.anchor, "(5 none)");

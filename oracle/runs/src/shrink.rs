@@ -1,15 +1,16 @@
 //! Shrinking: the fewest lines that still show a difference.
 
+use crate::hashes::copy_case;
 use crate::script::Script;
 use harness::{Call, Oracle, Start};
 
 /// A line, with its ticket's and claim's numbers told from where the driver
 /// stands. So they stay right, or wrong by the same amount, when lines before
-/// them are left out.
+/// them are left out. Its hashes stay as the line writes them.
 #[derive(Clone)]
 enum Step {
     Text(Vec<u8>),
-    Relative(Call),
+    Relative(Call, Vec<u8>),
 }
 
 /// Leave out lines of `script` as long as `differs` holds.
@@ -53,7 +54,7 @@ fn steps(script: &Script, start: Start) -> Vec<Step> {
         let step = match Call::read(line)
             .and_then(|call| moved(call, oracle.sequence(), u64::wrapping_sub))
         {
-            Some(call) => Step::Relative(call),
+            Some(call) => Step::Relative(call, line.to_vec()),
             None => Step::Text(line.to_vec()),
         };
         steps.push(step);
@@ -70,9 +71,12 @@ fn script_of(steps: &[Step], start: Start, ends_in_feed: bool) -> Script {
         line.clear();
         match step {
             Step::Text(text) => line.extend_from_slice(text),
-            Step::Relative(call) => moved(*call, oracle.sequence(), u64::wrapping_add)
-                .expect("a relative call has numbers to move")
-                .write(&mut line),
+            Step::Relative(call, written) => {
+                moved(*call, oracle.sequence(), u64::wrapping_add)
+                    .expect("a relative call has numbers to move")
+                    .write(&mut line);
+                copy_case(&mut line, written);
+            }
         }
         oracle.answer_line(&line);
         script.push(&line);
@@ -107,6 +111,7 @@ fn moved(call: Call, (now_seq, now_epoch): (u64, u64), by: fn(u64, u64) -> u64) 
 mod tests {
     use super::*;
     use crate::generator::{generate, Recipe};
+    use crate::hashes::hashes;
     use std::convert::Infallible;
 
     fn answers(script: &Script, start: Start, wanted: &[u8]) -> bool {
@@ -137,6 +142,27 @@ mod tests {
     #[test]
     fn a_carried_settle_needs_two_deliveries_and_two_applies() {
         assert_eq!(shrunk_to(b"(settled (carried", Start::default()).len(), 4);
+    }
+
+    /// A difference in how a program reads capitals is still there on the fewest lines.
+    #[test]
+    fn hashes_stay_as_they_were_written() {
+        let (script, _) = generate(4, &Recipe::default());
+        let capital = |line: &[u8]| {
+            let claim = line.starts_with(b"(claim ");
+            claim
+                && hashes(line)
+                    .into_iter()
+                    .any(|hash| line[hash].contains(&b'F'))
+        };
+        let differs = |script: &Script| {
+            let claimed = answers(script, Start::default(), b"(claimed");
+            Ok::<_, Infallible>(claimed && script.lines().any(capital))
+        };
+        assert_eq!(differs(&script), Ok(true));
+        let Ok(shrunk) = shrink(&script, Start::default(), differs);
+        assert_eq!(differs(&shrunk), Ok(true));
+        assert!(shrunk.len() <= 3, "{}", shrunk.len());
     }
 
     #[test]
