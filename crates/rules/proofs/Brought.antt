@@ -29,7 +29,7 @@ use Rattle.rules.proofs.LineFeeds.{sheet_is_text}
 use Rattle.rules.proofs.Lines.{lines_keep}
 use Rattle.rules.proofs.Rule.{kept_answers_tell_sheets, kept_sheets_tell_answers, telling}
 
-taken_keeps : (sheet : List ℕ) (x : Driver) → Taken sheet x → Invariant x
+pub taken_keeps : (sheet : List ℕ) (x : Driver) → Taken sheet x → Invariant x
 taken_keeps sheet x t = meets_keeps x t.0.0 t.1
 
 -- a rebuild gives what the bytes show, or the driver at hand

@@ -1,5 +1,5 @@
--- For users: Sheets, Forms and Capitals, the statements. Ranges, Lines and Waiters are steps to the first; Only, WaitersOnly and Shapes,
--- what is read was written so, to the second. Capitals needs none of them, only what each line is made of.
+-- For users: Sheets, Forms and Bytes, the statements. Ranges, Lines and Waiters are steps to the first; Only, WaitersOnly and Shapes,
+-- what is read was written so, to the second. Bytes needs none of them, only what each line is made of.
 pub mod Ranges
 pub mod Lines
 pub mod Only
@@ -8,4 +8,4 @@ pub mod Shapes
 pub mod Waiters
 pub mod Forms
 pub mod Sheets
-pub mod Capitals
+pub mod Bytes

@@ -1,7 +1,7 @@
 -- What is proved of sheets.
 use Rattle.std.specs.Char.{is_ascii_uppercase}
 use Rattle.std.specs.List.{list_any}
-use Rattle.std.specs.Prelude.{ℕ, List, Some, false, ◌↔◌, ◌≡◌}
+use Rattle.std.specs.Prelude.{ℕ, List, Some, false, eqb, ◌↔◌, ◌≡◌}
 use Rattle.alike.specs.Canon.{canon}
 use Rattle.alike.specs.Invariant.{Invariant}
 use Rattle.script_sheet.specs.Sheets.{sheet_text}
@@ -24,3 +24,7 @@ FormRead = (text : List ℕ) (d : Driver) → (read_sheet text ≡ Some d) ↔ S
 -- Document 02, Job 3: "A sheet with capitals is not in sheet form."
 abbrev pub NoCapitals : Type 0
 NoCapitals = (text : List ℕ) (d : Driver) → SheetForm text d → list_any is_ascii_uppercase text ≡ false
+
+-- Document 02, Job 4: "A sheet read here ends at the first zero byte": no sheet has one, so zero bytes behind it end it.
+abbrev pub NoZeros : Type 0
+NoZeros = (text : List ℕ) (d : Driver) → SheetForm text d → list_any (λ b. eqb b 0) text ≡ false

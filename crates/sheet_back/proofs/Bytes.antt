@@ -1,10 +1,12 @@
--- A sheet in sheet form has no capital: its lines are words, decimals and hashes, and none of these has one.
+-- A sheet in sheet form has no capital and no zero byte: its lines are words, decimals and hashes, and none of these has one.
 use Prim.Native.Nat.{ℕ, suc, ◌+◌, ◌<◌}
 use native.Mathlib.Omega.{arith}
-use mathlib.Core.Bool.{false}
+use mathlib.Core.Bool.{Bool, false, ◌||◌}
 use mathlib.Core.List.{List, [], ◌∷◌}
 use mathlib.Core.Path.{◌≡◌, refl, ap, ◌∙◌}
-use borrow.Author.Tests.{lt-leb}
+use lib.Dec.{eqb}
+use borrow.Author.Tests.{le-leb, lt-leb}
+use Rattle.std.proofs.lemmas.Bool.{ne_eqb, or_parts}
 use Rattle.std.proofs.lemmas.List.Folds.{list_any-append}
 use Rattle.std.specs.Char.{is_ascii_uppercase}
 use Rattle.std.specs.List.{list_any}
@@ -30,7 +32,10 @@ use Rattle.head_driver.specs.Answers.{stats_values}
 use Rattle.head_driver.specs.declared.Driver.{Driver}
 use Rattle.text.specs.Decimals.{decimal}
 use Rattle.text.proofs.DecimalRead.{decimal_none}
-use Rattle.hash_text.proofs.Capitals.{hash_no_capital}
+use Rattle.hash.specs.declared.Hash.{Hash}
+use Rattle.hash_text.specs.Hex.{glyph}
+use Rattle.hash_text.specs.Texts.{hash_prefix, hash_text}
+use Rattle.hash_text.proofs.HexRead.{glyph_test, hex_text_none}
 use Rattle.value_text.specs.Texts.{anchor_text, slot_text}
 use Rattle.value_text.specs.Values.{value_text, values_on}
 use Rattle.value_text.specs.Words.{word_text}
@@ -39,11 +44,16 @@ use Rattle.script_outcome.specs.Texts.{readiness_text, report_text}
 use Rattle.sheet_lines.specs.Lines.{count_line, current_line, delivery_text, generation_text, installed_line, previous_line}
 use Rattle.sheet_lines.specs.Lines.{superseded_line, unclaimed_end_text, unsettled_text, waiter_line, waiter_lines}
 use Rattle.script_sheet.specs.Sheets.{life_lines, lines_of}
-use Rattle.sheet_back.specs.Statements.{NoCapitals}
+use Rattle.sheet_rules.specs.Form.{SheetForm}
+use Rattle.sheet_back.specs.Statements.{NoCapitals, NoZeros}
 
--- without capitals
+-- a capital or a zero byte
+abbrev capital_or_zero : ℕ → Bool
+capital_or_zero b = is_ascii_uppercase b || eqb b 0
+
+-- without them
 abbrev Plain : List ℕ → Type 0
-Plain s = list_any is_ascii_uppercase s ≡ false
+Plain s = list_any capital_or_zero s ≡ false
 
 -- ---- words, decimals and hashes, and the values that are made of them
 
@@ -82,18 +92,31 @@ word_plain Word.rpc = refl
 word_plain Word.decode = refl
 word_plain Word.none = refl
 
--- digits stand below the capitals
-digit_plain : (d : ℕ) → d < 10 → is_ascii_uppercase (48 + d) ≡ false
-digit_plain d h = rw (lt-leb 65 (48 + d) (omega arith)) refl
+-- digits stand above zero and below the capitals, and small letters above these
+below_plain : (b : ℕ) → 0 < b → b < 65 → capital_or_zero b ≡ false
+below_plain b p q = rw (lt-leb 65 b q, ne_eqb b 0 (λ e. omega arith)) refl
+
+above_plain : (b : ℕ) → 90 < b → capital_or_zero b ≡ false
+above_plain b p = rw (le-leb 65 b (omega arith), lt-leb b 90 p, ne_eqb b 0 (λ e. omega arith)) refl
 
 decimal_plain : (n : ℕ) → Plain (decimal n)
-decimal_plain n = decimal_none is_ascii_uppercase digit_plain n
+decimal_plain n = decimal_none capital_or_zero (λ d h. below_plain (48 + d) (omega arith) (omega arith)) n
+
+glyph_plain : (d : ℕ) → d < 16 → capital_or_zero (glyph d) ≡ false
+glyph_plain =
+    glyph_test (λ b. capital_or_zero b ≡ false)
+    (λ b p q. below_plain b (omega arith) (omega arith))
+    (λ b p q. above_plain b (omega arith))
+
+hash_plain : (h : Hash) → Plain (hash_text h)
+unfolding hash_text hash_prefix
+hash_plain h = hex_text_none capital_or_zero glyph_plain h
 
 value_plain : (v : Value) → Plain (value_text v)
 unfolding value_text
 value_plain (Value.word w) = word_plain w
 value_plain (Value.number n) = decimal_plain n
-value_plain (Value.hash h) = hash_no_capital h
+value_plain (Value.hash h) = hash_plain h
 value_plain (Value.two a b) = simp (list_any-append, value_plain a, value_plain b)
 value_plain (Value.three a b c) = simp (list_any-append, value_plain a, value_plain b, value_plain c)
 
@@ -130,7 +153,7 @@ readiness_plain r = value_plain (readiness_value r)
 
 delivery_plain : (held : HeadDelivery) → Plain (delivery_text held)
 unfolding delivery_text
-delivery_plain held = simp (list_any-append, anchor_plain, hash_no_capital)
+delivery_plain held = simp (list_any-append, anchor_plain, hash_plain)
 
 unsettled_plain : (u : UnsettledHead) → Plain (unsettled_text u)
 unfolding unsettled_text
@@ -184,5 +207,20 @@ unfolding lines_of
 lines_plain d = simp (list_any-append, life_plain, waiters_plain)
 
 -- a text in sheet form is a driver's lines
+form_plain : (text : List ℕ) (d : Driver) → SheetForm text d → Plain text
+form_plain text d f = ap (list_any capital_or_zero) f.1 ∙ lines_plain d
+
+-- each of two tests passes nowhere, where either does
+neither : (p q : ℕ → Bool) (s : List ℕ) → list_any (λ b. p b || q b) s ≡ false → (list_any p s ≡ false) × (list_any q s ≡ false)
+neither p q [] e = (refl, refl)
+neither p q (b ∷ s) e =
+    let h = or_parts (p b || q b) (list_any (λ c. p c || q c) s) e in
+    let here = or_parts (p b) (q b) h.0 in
+    let later = neither p q s h.1 in
+    (rw (here.0, later.0) refl, rw (here.1, later.1) refl)
+
 pub no_capitals : NoCapitals
-no_capitals text d f = ap (list_any is_ascii_uppercase) f.1 ∙ lines_plain d
+no_capitals text d f = (neither is_ascii_uppercase (λ b. eqb b 0) text (form_plain text d f)).0
+
+pub no_zeros : NoZeros
+no_zeros text d f = (neither is_ascii_uppercase (λ b. eqb b 0) text (form_plain text d f)).1
