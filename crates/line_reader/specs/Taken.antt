@@ -1,5 +1,6 @@
 -- Document 01, "Lines": a reader record borrowing the line and counting bytes taken. The word that stands next, and the reader once that word's bytes are taken; and the same of a byte.
-use Rattle.std.specs.Prelude.{ℕ, ◌+◌, Bool, false, List, [], ◌∷◌, eqb, length, drop, Option, Some, None}
+use Rattle.std.specs.Prelude.{ℕ, ◌+◌, Bool, List, length, drop, Option, Some, None}
+use Rattle.text.specs.Places.{begins}
 use Rattle.text.specs.Words.{word}
 use Rattle.line_reader.specs.declared.LineReader.{LineReader}
 
@@ -15,11 +16,6 @@ took n r = record { line = r.line; taken = r.taken + n }
 abbrev pub took_word : LineReader → LineReader
 took_word r = took (length (word_next r)) r
 
--- the bytes start with that one
-unfoldable pub begins : ℕ → List ℕ → Bool
-begins byte [] = false
-begins byte (b ∷ s) = eqb b byte
-
 -- whether that byte stands next
 abbrev pub stands_next : ℕ → LineReader → Bool
 stands_next byte r = begins byte (drop r.taken r.line.now)
@@ -28,3 +24,8 @@ stands_next byte r = begins byte (drop r.taken r.line.now)
 abbrev pub took_byte : {A : Type 0} → Option A → LineReader → LineReader
 took_byte None r = r
 took_byte (Some x) r = took 1 r
+
+-- so many bytes are taken where they were there, and else none
+abbrev pub took_count : {A : Type 0} → ℕ → Option A → LineReader → LineReader
+took_count n None r = r
+took_count n (Some x) r = took n r

@@ -4,10 +4,11 @@
 #![tactic(auto)]
 
 ghost use Rattle.std.specs.Prelude.{[], ◌∷◌, ◌≡◌, cond, drop, is_some};
-ghost use Rattle.line_reader.specs.Taken.{stands_next, took_byte, took_word, word_next};
+ghost use Rattle.line_reader.specs.Taken.{stands_next, took_byte, took_count, took_word, word_next};
 ghost use Rattle.line_reader.specs.Reads.{rest, rest_after};
-ghost use Rattle.text.specs.Rests.{after, at_end, past_word, says, word_here};
+ghost use Rattle.text.specs.Rests.{after, at_end, past, past_word, says, word_here};
 
+use text::place::{at_end, past, past_byte};
 use text::word::{next_word, rest};
 
 #[derive(Clone, Copy)]
@@ -25,7 +26,7 @@ impl<'a> LineReader<'a> {
     }
 
     // The next word, as part of the caller's line; its bytes are taken.
-    #[tactic(auto, using(crate::proofs::Lines::place_after, crate::proofs::Lines::word_passed), unfolding(text::specs::Rests::word_here))]
+    #[tactic(auto, using(text::proofs::Places::place_after, text::proofs::Places::word_passed), unfolding(text::specs::Rests::word_here))]
     pub fn take_word(&mut self) -> &'a [u8]
         ensures word { (result.now ≡ word_next self.old) × (self.new ≡ took_word self.old) }
         ensures word_here { result.now ≡ word_here (rest self.old) }
@@ -52,25 +53,32 @@ impl<'a> LineReader<'a> {
     }
 
     // Takes one byte where it stands next; nothing is taken where another does, or none.
-    #[tactic(auto, using(crate::proofs::Lines::begins_end, crate::proofs::Lines::begins_other, crate::proofs::Lines::begins_so, crate::proofs::Lines::byte_end, crate::proofs::Lines::byte_other, crate::proofs::Lines::byte_on))]
+    #[tactic(auto, using(text::proofs::Places::byte_found, text::proofs::Places::byte_missing, text::proofs::Places::byte_place), unfolding(text::specs::Places::here))]
     pub fn past_byte(&mut self, byte: u8) -> Option<()>
         ensures found { is_some result ≡ stands_next byte self.old }
         ensures reader { self.new ≡ took_byte result self.old }
         ensures rest { after (byte ∷ []) (rest self.old) ≡ rest_after result self.new }
     {
-        if *self.line.get(self.taken)? != byte {
-            return None;
-        }
-        self.taken += 1;
+        self.taken = past_byte(self.line, Some(self.taken), byte)?;
+        Some(())
+    }
+
+    // Takes so many bytes where so many are left, and else none.
+    #[tactic(auto, using(text::proofs::Places::count_place), unfolding(text::specs::Places::here))]
+    pub fn past(&mut self, count: usize) -> Option<()>
+        ensures reader { self.new ≡ took_count count result self.old }
+        ensures rest { past count (rest self.old) ≡ rest_after result self.new }
+    {
+        self.taken = past(self.line, Some(self.taken), count)?;
         Some(())
     }
 
     // Whether all of the line is read.
-    #[tactic(auto, using(crate::proofs::Lines::end_here))]
+    #[tactic(auto, unfolding(text::specs::Places::here))]
     pub fn at_end(&self) -> bool
         ensures { result ≡ at_end (rest self.now) }
     {
-        self.taken >= self.line.len()
+        at_end(self.line, Some(self.taken))
     }
 
     pub fn bytes_taken(&self) -> usize

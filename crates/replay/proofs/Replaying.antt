@@ -4,20 +4,19 @@ use native.Mathlib.Nat.{not-suc-le-zero}
 use native.Mathlib.Omega.{arith}
 use mathlib.Core.Bool.{Bool, true, false}
 use mathlib.Core.List.{List, [], ◌∷◌, ◌++◌}
-use mathlib.Core.Path.{◌≡◌, refl, ap, ◌∙◌}
+use mathlib.Core.Path.{◌≡◌, refl, ap, sym, ◌∙◌}
 use lib.Dec.{eqb, ltb}
 use lib.ListN.{length, take, drop, get_or, length-append, length-drop}
 use lib.Seq.{take_all, take-append_seam}
 use borrow.Author.Tests.{eq-eqb, eqb-false, eqb-true, le-leb, ltb-false, ltb-true, ne_eqb}
-use Rattle.std.specs.Prelude.{Option, Some, None, unwrap_or, cond}
+use Rattle.std.specs.Prelude.{Option, Some, None, cond}
 use Rattle.head_count.specs.Counters.{up}
 use Rattle.pending.proofs.LineFeeds.{through_some}
 use Rattle.pending.specs.Kept.{Keeps, through_line_feed}
 use Rattle.script.specs.Feeds.{Finishes, last_prints, lent, reading}
 use Rattle.script.specs.Parts.{Prints, at_front}
-use Rattle.text.specs.Decimals.{number}
+use Rattle.text.specs.Places.{number_from, with_place}
 use Rattle.text.specs.Rests.{Rest, word_here, number_got, read_number}
-use Rattle.text.specs.Words.{word}
 use Rattle.text.specs.Writes.{Wrote}
 use Rattle.text.proofs.Writes.{sets_front, then}
 use Rattle.head_driver.specs.declared.Driver.{Driver}
@@ -58,14 +57,25 @@ marked_held [] held k e is = let z : 1 ≤ 0 = omega arith in absurd (not-suc-le
 marked_held (b ∷ l) zero k e is = let z : 1 ≤ 0 = omega arith in absurd (not-suc-le-zero z)
 marked_held (b ∷ l) (suc held) k e is = omega arith
 
-number_value : (m : Option ℕ) (next : Rest) → unwrap_or m 0 ≡ (number_got m next).value
-unfolding number_got
-number_value (Some n) next = refl
-number_value None next = refl
+abbrev value_or_zero : Option (ℕ × ℕ) → ℕ
+value_or_zero None = 0
+value_or_zero (Some x) = x.0
 
-pub number_read : (line w : List ℕ) (held : ℕ) (m : Option ℕ) → held ≤ length line → w ≡ word (drop 1 (take held line)) → m ≡ number w → unwrap_or m 0 ≡ number_of line held
-unfolding number_of read_number word_here
-number_read line w held m h e f = rw (le-leb held (length line) h, ← e, ← f) (number_value m _)
+number_value : (m : Option ℕ) (i : ℕ) (next : Rest) → value_or_zero (with_place m i) ≡ (number_got m next).value
+unfolding with_place number_got
+number_value (Some n) i next = refl
+number_value None i next = refl
+
+module _ (line : List ℕ) (held : ℕ) (q : Option (ℕ × ℕ)) (h : held ≤ length line) (e : q ≡ number_from (take held line) (Some 1)) where
+  value_read : value_or_zero q ≡ number_of line held
+  unfolding number_of number_from read_number word_here
+  value_read = rw (e, le-leb held (length line) h) (number_value _ _ _)
+
+  pub number_read : (n j : ℕ) → q ≡ Some (n, j) → n ≡ number_of line held
+  number_read n j f = ap value_or_zero (sym f) ∙ value_read
+
+  pub number_missing : q ≡ None → 0 ≡ number_of line held
+  number_missing f = ap value_or_zero (sym f) ∙ value_read
 
 -- ---- the answer that is collected
 

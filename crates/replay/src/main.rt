@@ -18,8 +18,7 @@ use pending::keep;
 use script::finish;
 use std::fs::File;
 use std::io::{self, Read};
-use text::word::next_word;
-use text_decimal::read_decimal;
+use text_decimal::number_from;
 use text_put::put::put;
 use text_same::same;
 
@@ -161,14 +160,17 @@ fn answer_taken(mark: u8, wanted: usize, line: &[u8], held: usize, want: &mut [u
 }
 
 // The number behind the mark; 0 where there is none.
-#[tactic(auto, using(crate::proofs::Replaying::number_read), unfolding(crate::specs::Recordings::number_of))]
+#[tactic(auto, using(crate::proofs::Replaying::number_read, crate::proofs::Replaying::number_missing), unfolding(crate::specs::Recordings::number_of))]
 fn number(line: &[u8], held: usize) -> u64
     ensures { result ≡ number_of line.now held }
 {
     if held > line.len() {
         return 0;
     }
-    read_decimal(next_word(&line[..held], 1)).unwrap_or(0)
+    match number_from(&line[..held], Some(1)) {
+        Some((number, _)) => number,
+        None => 0,
+    }
 }
 
 // After a call whose answer was compared.

@@ -5,5 +5,6 @@ pub mod Back
 pub mod Only
 pub mod Words
 pub mod Same
+pub mod Places
 pub mod Digits
 pub mod DecimalRead

@@ -6,4 +6,5 @@ pub mod Ascii
 pub mod Same
 pub mod Digits
 pub mod Rests
+pub mod Places
 pub mod Writes

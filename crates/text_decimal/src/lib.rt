@@ -6,9 +6,11 @@ ghost use Rattle.std.specs.Prelude.{Some, ◌≡◌};
 ghost use Rattle.line_reader.specs.Reads.{rest, Reads};
 ghost use Rattle.line_reader.specs.Taken.{took_word};
 ghost use Rattle.text.specs.Decimals.{digit, more, number};
+ghost use Rattle.text.specs.Places.{ReadsFrom, here, number_from};
 ghost use Rattle.text.specs.Rests.{read_number};
 
 use line_reader::LineReader;
+use text::word::next_word;
 
 #[tactic(auto, using(text::proofs::DecimalRead::digit_value, text::proofs::Only::digit_low, text::proofs::Only::digit_high))]
 pub(crate) fn first_digit(b: u8) -> Option<u64>
@@ -52,4 +54,15 @@ pub fn take_decimal(r: &mut LineReader<'_>) -> Option<u64>
     ensures reader { r.new ≡ took_word r.old }
 {
     read_decimal(r.take_word())
+}
+
+// The number of the word at a place, and the place after the word, for those who have no reader.
+#[tactic(auto, using(text::proofs::Places::number_stopped, text::proofs::Places::number_none, text::proofs::Places::number_some, text::proofs::Places::place_after))]
+pub fn number_from(line: &[u8], from: Option<usize>) -> Option<(u64, usize)>
+    ensures place { result ≡ number_from line.now from }
+    ensures reads { ReadsFrom line.now result (read_number (here line.now from)) }
+{
+    let at = from?;
+    let word = next_word(line, at);
+    Some((read_decimal(word)?, at + word.len()))
 }

@@ -1,2 +1,0 @@
--- The steps of single functions.
-pub mod Lines
