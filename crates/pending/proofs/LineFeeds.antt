@@ -62,6 +62,16 @@ through_some (b ∷ s) h = go (eqb b 10)
     go true = omega arith
     go false = omega arith
 
+-- the bytes before it are the front of the text
+pub feed_front : (s : List ℕ) → s ≡ to_line_feed s ++ drop (length (to_line_feed s)) s
+unfolding to_line_feed
+feed_front [] = refl
+feed_front (b ∷ s) = go (eqb b 10) (feed_front s)
+  where
+    go : (t : Bool) → s ≡ to_line_feed s ++ drop (length (to_line_feed s)) s → b ∷ s ≡ cond t [] (b ∷ to_line_feed s) ++ drop (length (cond t [] (b ∷ to_line_feed s))) (b ∷ s)
+    go true more = refl
+    go false more = ap (λ (r : List ℕ). b ∷ r) more
+
 -- there is one exactly where fewer bytes stand before it than there are
 pub feed_there : (s : List ℕ) → length (to_line_feed s) < length s → has_line_feed s ≡ true
 unfolding has_line_feed to_line_feed
@@ -80,3 +90,13 @@ feed_not_there (b ∷ s) h = go (eqb b 10) (feed_not_there s) h
     go : (t : Bool) → (length s ≤ length (to_line_feed s) → has_line_feed s ≡ false) → suc (length s) ≤ length (cond t [] (b ∷ to_line_feed s)) → cond t true (has_line_feed s) ≡ false
     go true more k = absurd (not-suc-le-zero k)
     go false more k = more (le_of_suc-le-suc k)
+
+-- bytes without a line feed stand before the next one with what stands before it after them
+pub to_feed_past : (s t : List ℕ) → has_line_feed s ≡ false → to_line_feed (s ++ t) ≡ s ++ to_line_feed t
+unfolding has_line_feed to_line_feed
+to_feed_past [] t h = refl
+to_feed_past (b ∷ s) t h = go (eqb b 10) (to_feed_past s t) h
+  where
+    go : (x : Bool) → (has_line_feed s ≡ false → to_line_feed (s ++ t) ≡ s ++ to_line_feed t) → cond x true (has_line_feed s) ≡ false → cond x [] (b ∷ to_line_feed (s ++ t)) ≡ b ∷ (s ++ to_line_feed t)
+    go true more k = absurd (true≢false k)
+    go false more k = ap (λ (r : List ℕ). b ∷ r) (more k)
