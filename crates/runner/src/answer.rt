@@ -9,6 +9,8 @@ use script::{Fed, feed, finish};
 use std::io::{Read, Write};
 
 // Answers as much of the input as there is room for, and writes the answers. Where they cannot be written, nothing counts as taken.
+// Kept out of its caller, as `answer_last` is: inlined there, its 64 KiB of answers stay on the stack while the last line's are made.
+#[inline(never)]
 fn answer_some<W: Write>(
     out: &mut W,
     d: Driver,
@@ -60,6 +62,8 @@ fn answer_all<W: Write>(
 }
 
 // The end of the input: a last line without its line feed. Whether its answer was written.
+// Kept out of its caller: inlined there, its answers lie beside those of the lines before.
+#[inline(never)]
 fn answer_last<W: Write>(out: &mut W, d: Driver, pending: &[u8], held: usize) -> bool
     ensures { result ≡ true → AnswersLast (reading d pending.now held) (W.contents out.old) (W.contents out.new) }
 {
